@@ -1,0 +1,17 @@
+// Sets of hosts as 16-bit masks, in which host j weighs 2^j.
+ghost use mathlib.Core.Path.{_≡_};
+ghost use Rattle.sets.specs.Sets.{count, has};
+
+// Whether the set has the host. No set has a host of 16 or above.
+pub fn has_host(hosts: u16, host: u8) -> bool
+    ensures { λ r. ⌜ r ≡ has hosts host ⌝ }
+{
+    host < 16 && (hosts >> host) & 1 == 1
+}
+
+// How many hosts the set has.
+pub fn count_hosts(hosts: u16) -> u32
+    ensures { λ r. ⌜ r ≡ count 16 (has hosts) ⌝ }
+{
+    hosts.count_ones()
+}
