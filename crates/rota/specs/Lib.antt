@@ -1,0 +1,3 @@
+pub mod Schedule
+pub mod Cycles
+pub mod Written
