@@ -3,6 +3,7 @@ ghost use mathlib.Core.Path.{_≡_};
 ghost use Prim.Native.Nat.{_≤_};
 ghost use Rattle.rota.specs.Schedule.{Schedule, Sound};
 ghost use Rattle.rota.specs.Cycles.{turnByTurn};
+use sets::is_host_count;
 
 pub mod written;
 
@@ -40,7 +41,7 @@ impl TurnByTurn {
     pub fn new(n: u8) -> TurnByTurn
         ensures { λ r. ⌜ turnByTurn (r .hosts) ≡ turnByTurn n ⌝ }
     {
-        let hosts = if n <= 16 { n } else { 0 };
+        let hosts = if is_host_count(n) { n } else { 0 };
         TurnByTurn { hosts }
     }
 }

@@ -10,6 +10,7 @@ ghost use Rattle.rota.specs.Written.{writtenSchedule};
 use crate::PHASES;
 use crate::Rota;
 use entries::WrittenRota;
+use sets::is_host_count;
 
 pub mod entries;
 
@@ -48,8 +49,7 @@ fn name_all(entries: &[u8], n: u8) -> bool
 fn are_rota(entries: &[u8], n: u8) -> bool
     ensures { λ r. ⌜ r ≡ isWritten n (now (entries .entry)) ⌝ }
 {
-    n > 0
-        && n < 17
+    is_host_count(n)
         && !entries.is_empty()
         && entries.len() < 65
         && are_below(entries, n)

@@ -1,6 +1,13 @@
 // Sets of hosts as 16-bit masks, in which host j weighs 2^j.
 ghost use mathlib.Core.Path.{_≡_};
-ghost use Rattle.sets.specs.Sets.{count, has};
+ghost use Rattle.sets.specs.Sets.{count, has, isHostCount};
+
+// Whether a council can have so many hosts.
+pub fn is_host_count(n: u8) -> bool
+    ensures { λ r. ⌜ r ≡ isHostCount n ⌝ }
+{
+    n >= 1 && n <= 16
+}
 
 // Whether the set has the host. No set has a host of 16 or above.
 pub fn has_host(hosts: u16, host: u8) -> bool

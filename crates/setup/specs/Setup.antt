@@ -1,0 +1,92 @@
+-- When a council can be made, and where the honest inputs stand among the candidates.
+use mathlib.Core.Bool.{Bool, true, false, cond, not, _&&_, _||_}
+use mathlib.Core.List.{List, [], _∷_}
+use Prim.Native.Nat.{ℕ, _+_, _*_}
+use lib.Dec.{eqb, leb, ltb}
+use lib.ListN.{length, getD}
+use Rattle.std.specs.Finite.{nth}
+use Rattle.std.specs.Options.{isSome}
+use Rattle.std.specs.declared.option.Option.{Option}
+use Rattle.std.specs.declared.option.Option.the-variants.{Some, None}
+use Rattle.std.specs.declared.result.Result.{Result}
+use Rattle.std.specs.declared.result.Result.the-variants.{Ok, Err}
+use Rattle.sets.specs.Sets.{has, count, allBelow, lowest, perHost, isHostCount}
+use Rattle.rota.specs.Schedule.{Schedule}
+use Rattle.setup.specs.declared.SetupFault.{SetupFault}
+use Rattle.setup.specs.declared.SetupFault.the-variants.{HostCount, FaultBound, FaultSet, CandidateCount, EqualCandidates, InputCount, StrayInput, RotaHosts}
+use Rattle.setup.specs.declared.InputPlaces.{InputPlaces}
+use Rattle.setup.specs.Numbers.{numberOf}
+
+-- a council has 1 to 32 candidates
+abbrev pub isCandidateCount : ℕ → Bool
+isCandidateCount m = ltb 0 m && ltb m 33
+
+-- the set names only hosts below n
+abbrev pub onlyBelow : ℕ → ℕ → Bool
+onlyBelow n hosts = allBelow 16 (λ j. ltb j n || not (has hosts j))
+
+-- at most t hosts, all below n
+abbrev pub isFaultSet : ℕ → ℕ → ℕ → Bool
+isFaultSet n t faulty = onlyBelow n faulty && leb (count 16 (has faulty)) t
+
+-- each honest host below n has a place
+abbrev pub allPlaced : ℕ → ℕ → List (Option ℕ) → Bool
+allPlaced n faulty places = allBelow n (λ j. has faulty j || isSome (getD places j None))
+
+-- what stands behind the first test that holds
+abbrev pub firstOf : {X : Type 0} → List (Bool × X) → Option X
+firstOf [] = None
+firstOf (row ∷ rows) = cond (row .0) (Some (row .1)) (firstOf rows)
+
+abbrev pub unless : {X F : Type 0} → Option F → X → Result X F
+unless None x = Ok x
+unless (Some f) x = Err f
+
+-- over a kind of candidate, by its equality
+module _ {C : Type 0} (equal : C → C → Bool) where
+  abbrev pub bothEqual : Option C → Option C → Bool
+  bothEqual None y = false
+  bothEqual (Some x) None = false
+  bothEqual (Some x) (Some y) = equal x y
+
+  -- no candidate before place j is equal to that at j
+  abbrev pub newAt : List C → ℕ → Bool
+  newAt cs j = allBelow j (λ i. not (bothEqual (nth cs i) (nth cs j)))
+
+  -- no two candidates are equal
+  abbrev pub distinct : List C → Bool
+  distinct cs = allBelow (length cs) (newAt cs)
+
+  -- the lowest place of a candidate equal to the input
+  abbrev pub placeOf : List C → Option C → Option ℕ
+  placeOf cs x = lowest (length cs) (λ k. bothEqual (nth cs k) x)
+
+  -- the place of host j's input; that of a faulty host is not looked at
+  abbrev pub placeAt : ℕ → List C → List C → ℕ → Option ℕ
+  placeAt faulty cs xs j = cond (has faulty j) None (placeOf cs (nth xs j))
+
+  abbrev pub placesOf : ℕ → List C → List C → List (Option ℕ)
+  placesOf faulty cs xs = perHost (placeAt faulty cs xs)
+
+  -- the first fault that applies to n hosts of which t may be faulty, the fault set, the candidates, the inputs and the rota
+  abbrev pub setupFault : ℕ → ℕ → ℕ → List C → List C → Schedule → Option SetupFault
+  setupFault n t faulty cs xs rota =
+      firstOf (
+      (not (isHostCount n), HostCount)
+      ∷ (ltb n (3 * t + 1), FaultBound)
+      ∷ (not (isFaultSet n t faulty), FaultSet)
+      ∷ (not (isCandidateCount (length cs)), CandidateCount)
+      ∷ (not (distinct cs), EqualCandidates)
+      ∷ (not (eqb (length xs) n), InputCount)
+      ∷ (not (allPlaced n faulty (placesOf faulty cs xs)), StrayInput)
+      ∷ (not (eqb (rota .hosts) n), RotaHosts)
+      ∷ []
+      )
+
+  -- the setup number
+  abbrev pub setupNumber : ℕ → ℕ → ℕ → List C → List C → Schedule → ℕ
+  setupNumber n t faulty cs xs rota = numberOf (setupFault n t faulty cs xs rota)
+
+  -- the places of the honest inputs, unless there is a fault
+  abbrev pub judged : ℕ → ℕ → ℕ → List C → List C → Schedule → Result InputPlaces SetupFault
+  judged n t faulty cs xs rota = unless (setupFault n t faulty cs xs rota) (record { places = placesOf faulty cs xs })
