@@ -1,0 +1,4 @@
+pub mod Reading
+pub mod Bags
+pub mod Lines
+pub mod Texts

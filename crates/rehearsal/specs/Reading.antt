@@ -1,0 +1,58 @@
+-- What the bytes of a rehearsal's setup say. Numbers have their most significant bit first.
+use mathlib.Core.Bool.{cond}
+use mathlib.Core.List.{List, map}
+use Prim.Native.Nat.{ℕ, _+_, _*_, _/_, _%_}
+use lib.Dec.{eqb, ltb}
+use lib.ListN.{length, getD}
+use Rattle.std.specs.Iters.{counting}
+use Rattle.std.specs.declared.option.Option.{Option}
+use Rattle.std.specs.declared.option.Option.the-variants.{Some, None}
+use Rattle.candidate.specs.declared.snapshot.Snapshot.{Snapshot}
+use Rattle.candidate.specs.declared.term.Term.{Term}
+use Rattle.candidate.specs.declared.term.TimeUnit.{TimeUnit}
+use Rattle.candidate.specs.declared.term.TimeUnit.the-variants.{Days, Months, Years, UntilClose}
+use Rattle.rehearsal.specs.declared.read.Head.{Head}
+use Rattle.rehearsal.specs.declared.read.Kind.{Kind}
+use Rattle.rehearsal.specs.declared.read.Kind.the-variants.{Snapshots, Terms}
+
+abbrev pub byte : List ℕ → ℕ → ℕ
+byte bs at = getD bs at 0
+
+-- the number in two bytes, and in four
+abbrev pub word : List ℕ → ℕ → ℕ
+word bs at = byte bs at * 256 + byte bs (at + 1)
+
+abbrev pub longWord : List ℕ → ℕ → ℕ
+longWord bs at = byte bs at * 16777216 + byte bs (at + 1) * 65536 + byte bs (at + 2) * 256 + byte bs (at + 3)
+
+-- the sort, in two bits; 2 and 3 are no kind of candidate
+abbrev pub kindOf : ℕ → Option Kind
+kindOf k = cond (eqb k 0) (Some Snapshots) (cond (eqb k 1) (Some Terms) None)
+
+-- N (5 bits), t (3), M (6), sort (2), fault set (16)
+abbrev pub headOf : List ℕ → Head
+headOf bs = record {
+  n = byte bs 0 / 8;
+  t = byte bs 0 % 8;
+  m = byte bs 1 / 4;
+  kind = kindOf (byte bs 1 % 4);
+  faulty = word bs 2;
+}
+
+abbrev pub headIn : List ℕ → Option Head
+headIn bs = cond (ltb (length bs) 4) None (Some (headOf bs))
+
+-- manual (32 bits), snapshot (32)
+abbrev pub snapshotAt : List ℕ → ℕ → Snapshot
+snapshotAt bs at = record { manual = longWord bs at; snapshot = longWord bs (at + 4) }
+
+abbrev pub unitOf : ℕ → TimeUnit
+unitOf k = cond (eqb k 0) Days (cond (eqb k 1) Months (cond (eqb k 2) Years UntilClose))
+
+-- unit (2 bits), count (14)
+abbrev pub termAt : List ℕ → ℕ → Term
+termAt bs at = record { unit = unitOf (byte bs at / 64); count = byte bs at % 64 * 256 + byte bs (at + 1) }
+
+-- n candidates of one size, one after another
+abbrev pub listAt : {C : Type 0} → ℕ → (List ℕ → ℕ → C) → List ℕ → ℕ → ℕ → List C
+listAt size read bs at n = map (λ i. read bs (at + size * i)) (counting 0 n)
