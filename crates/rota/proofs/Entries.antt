@@ -8,9 +8,9 @@ use lib.Dec.{eqb, ltb}
 use lib.ListN.{length, getD}
 use Rattle.std.specs.Orderings.{Decides, When}
 use Rattle.std.specs.Places.{Some-of}
-use Rattle.std.proofs.shelf.Tests.{ltb-true, eqb-true, eq-eqb, ne-eqb, and-parts}
+use Rattle.std.proofs.shelf.Tests.{ltb-true, eqb-true, eq-eqb, ne-eqb, and-parts, false≢true}
 use Rattle.sets.specs.Sets.{allBelow, isHostCount}
-use Rattle.sets.proofs.Tests.{all-each, all-cong, any-true, any-false, any-some, any-cong, torn}
+use Rattle.sets.proofs.Tests.{all-each, all-cong, any-true, any-false, any-some, any-cong}
 use Rattle.rota.specs.Schedule.{Sound}
 use Rattle.rota.specs.Cycles.{cycle, isWritten, names, namesExactly}
 use Rattle.rota.proofs.Repeating.{Entry, sound-cycle}
@@ -18,7 +18,7 @@ use Rattle.rota.proofs.Repeating.{Entry, sound-cycle}
 -- what `contains` answers
 pub contains-names : (es : List ℕ) (h : ℕ) (r : Bool) → Some-of (λ y t. Decides t (y ≡ h)) es r → r ≡ names es (length es) h
 contains-names es h true w = sym (any-true (length es) (λ i. eqb (getD es i 0) h) (w .0) (w .1) (eq-eqb _ h (w .2 0 .0 refl)))
-contains-names es h false w = sym (any-false (length es) (λ i. eqb (getD es i 0) h) (λ i l. ne-eqb _ h (λ e. torn (sym (w i 0 (omega arith) l .1 e)))))
+contains-names es h false w = sym (any-false (length es) (λ i. eqb (getD es i 0) h) (λ i l. ne-eqb _ h (λ e. false≢true (w i 0 (omega arith) l .1 e))))
 
 -- entries that name exactly the hosts make a sound schedule
 pub sound-entries : (n len : ℕ) (es : List ℕ) → (0 < n → 0 < len) → namesExactly es len n ≡ true → Sound (cycle n len (λ i. getD es i 0))

@@ -1,19 +1,14 @@
 -- Laws of the tests over the numbers below a bound: every one passes, some one passes, the lowest that passes.
-use mathlib.Core.Path.{_≡_, refl, subst, ap, _∙_}
+use mathlib.Core.Path.{_≡_, refl, sym, subst, ap, _∙_}
 use mathlib.Core.Bool.{Bool, true, false, cond}
 use mathlib.Core.Logic.{⊎-elim}
 use Prim.Native.Nat.{ℕ, zero, suc, _+_, _<_}
 use native.Mathlib.Omega.{arith}
 use native.Mathlib.Numerals.{add-one}
-use Rattle.std.proofs.shelf.Tests.{cases-bool, cases-eq}
+use Rattle.std.proofs.shelf.Tests.{cases-bool, cases-eq, true≢false, false≢true}
 use Rattle.std.specs.declared.option.Option.{Option}
 use Rattle.std.specs.declared.option.Option.the-variants.{Some, None}
 use Rattle.sets.specs.Sets.{allBelow, anyBelow, orElse, lowest}
-use mathlib.Core.Path.{sym}
-
--- true is not false
-pub torn : {X : Type 0} → true ≡ false → X
-torn e = absurd (let z : _≡_ {A = ℕ} 0 1 = cc in omega arith)
 
 -- every number below n passes
 pub all-none : (p : ℕ → Bool) → allBelow 0 p ≡ true
@@ -39,7 +34,7 @@ all-false (suc n) p i l h = ⊎-elim
 
 -- what holds of all holds of each
 pub all-each : (n : ℕ) (p : ℕ → Bool) → allBelow n p ≡ true → (i : ℕ) → i < n → p i ≡ true
-all-each n p h i l = ⊎-elim (λ e. e) (λ e. torn (sym h ∙ all-false n p i l e)) (cases-bool (p i))
+all-each n p h i l = ⊎-elim (λ e. e) (λ e. absurd (true≢false (sym h ∙ all-false n p i l e))) (cases-bool (p i))
 
 -- the same tests have the same answer
 pub all-cong : (n : ℕ) (p q : ℕ → Bool) → ((i : ℕ) → i < n → p i ≡ q i) → allBelow n p ≡ allBelow n q
@@ -64,7 +59,7 @@ any-false (suc n) p h = let a = any-false n p (λ i l. h i (omega arith)) in let
 -- the number that passes
 pub any-some : (n : ℕ) (p : ℕ → Bool) → anyBelow n p ≡ true → (i : ℕ) × (i < n) × (p i ≡ true)
 unfolding anyBelow
-any-some zero p h = torn (sym h)
+any-some zero p h = absurd (false≢true h)
 any-some (suc n) p h = ⊎-elim
     (λ a. (n, omega arith, a))
     (λ a. let w = any-some n p (grind arith) in (w .0, omega arith, w .2))

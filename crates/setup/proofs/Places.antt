@@ -11,10 +11,10 @@ use Rattle.std.specs.Options.{isSome}
 use Rattle.std.specs.declared.option.Option.{Option}
 use Rattle.std.specs.declared.option.Option.the-variants.{Some, None}
 use Rattle.std.proofs.shelf.Maps.{nth-read, nth-past}
-use Rattle.std.proofs.shelf.Tests.{cases-order, cases-lt, cases-bool}
+use Rattle.std.proofs.shelf.Tests.{cases-order, cases-lt, true≢false, false≢true}
 use Rattle.sets.specs.Sets.{has}
 use Rattle.sets.proofs.Masks.{getD-perHost}
-use Rattle.sets.proofs.Tests.{all-each, lowest-is, lowest-none, torn}
+use Rattle.sets.proofs.Tests.{all-each, lowest-is, lowest-none}
 use Rattle.setup.specs.Setup.{bothEqual, newAt, distinct, placeOf, placeAt, placesOf, allPlaced}
 use Rattle.setup.specs.Placed.{OnlyPlace, Placed}
 
@@ -45,7 +45,7 @@ module _ {C : Type 0} (equal : C → C → Bool) where
 
   -- a candidate that is equal to something stands somewhere
   stands : (cs : List C) (k : ℕ) (o : Option C) → bothEqual equal (nth cs k) o ≡ true → k < length cs
-  stands cs k o e = ⊎-elim (λ l. l) (λ h. torn (sym e ∙ ap (λ (m : Option C). bothEqual equal m o) (nth-past cs k h))) (cases-lt k (length cs))
+  stands cs k o e = ⊎-elim (λ l. l) (λ h. absurd (true≢false (sym e ∙ ap (λ (m : Option C). bothEqual equal m o) (nth-past cs k h)))) (cases-lt k (length cs))
 
   module _ (symmetric : (x y : C) → equal x y ≡ true → equal y x ≡ true) (transitive : (x y z : C) → equal x y ≡ true → equal y z ≡ true → equal x z ≡ true) where
     -- two that are equal to a third are equal
@@ -59,7 +59,7 @@ module _ {C : Type 0} (equal : C → C → Bool) where
     clash cs i j x d l p q =
         let new = all-each (length cs) (newAt equal cs) d j (stands cs j (Some x) q) in
         let apart = all-each j (λ k. not (bothEqual equal (nth cs k) (nth cs j))) new i l in
-        torn (sym apart ∙ ap not (joined (nth cs i) (nth cs j) x p q))
+        true≢false (sym apart ∙ ap not (joined (nth cs i) (nth cs j) x p q))
 
     only-place : (cs : List C) (x : C) (place : ℕ) → distinct equal cs ≡ true → placeOf equal cs (Some x) ≡ Some place → OnlyPlace equal cs x place
     only-place cs x place d e =
@@ -76,7 +76,7 @@ module _ {C : Type 0} (equal : C → C → Bool) where
         }
 
     some-place : (o : Option ℕ) → isSome o ≡ true → (place : ℕ) × (o ≡ Some place)
-    some-place None e = torn (sym e)
+    some-place None e = absurd (false≢true e)
     some-place (Some p) e = (p, refl)
 
     pub placed : (n faulty : ℕ) (cs xs : List C) → n ≤ 16 → distinct equal cs ≡ true → allPlaced n faulty (placesOf equal faulty cs xs) ≡ true → Placed equal n faulty cs xs (placesOf equal faulty cs xs)
