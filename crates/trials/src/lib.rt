@@ -1,0 +1,9 @@
+// Tests of what stands below. The library itself is empty.
+#[cfg(test)]
+mod candidates;
+#[cfg(test)]
+mod rehearsals;
+#[cfg(test)]
+mod rotas;
+#[cfg(test)]
+mod setups;
