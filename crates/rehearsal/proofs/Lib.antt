@@ -1,2 +1,3 @@
-pub mod Splitting
 pub mod Council
+pub mod Cuts
+pub mod Splitting

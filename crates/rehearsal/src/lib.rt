@@ -1,10 +1,12 @@
 // A rehearsal: a council's setup and its bags, from the bytes that were given to the text that is printed.
 ghost use mathlib.Core.Path.{_≡_};
-ghost use mathlib.Core.List.{[], _∷_, _++_};
+ghost use mathlib.Core.List.{List, [], _∷_, _++_};
+ghost use Prim.Native.Nat.{ℕ};
 ghost use Rattle.std.specs.Of.String.{string-bytes};
 ghost use Rattle.std.specs.Of.Vec.{vec-items};
 ghost use Rattle.std.specs.Vec.{made};
 ghost use Rattle.rehearsal.specs.Bags.{bagsOf, counted};
+ghost use Rattle.rehearsal.specs.Cuts.{CutShort, shortText};
 ghost use Rattle.rehearsal.specs.Lines.{bagLines, councilLines, hostLine, hostLines, kindLines, linesOf};
 ghost use Rattle.rehearsal.specs.Texts.{endedLine, textOf};
 use bags::count_bags;
@@ -151,8 +153,10 @@ fn text_of(heap: Global, lines: &[Line]) -> Result<String, AllocError>
 }
 
 // All that a rehearsal of these bytes prints. It fails only for want of memory.
+// Wherever a setup is cut off before its end, `short` is all.
 pub fn rehearse(heap: Global, bytes: &[u8]) -> Result<String, AllocError>
-    ensures { λ r. ⌜ made r (λ s. string-bytes s ≡ textOf (linesOf (now (bytes .entry)))) ⌝ }
+    ensures text { λ r. ⌜ made r (λ s. string-bytes s ≡ textOf (linesOf (now (bytes .entry)))) ⌝ }
+    ensures cut { λ r. ⌜ made r (λ s. (whole : List ℕ) → CutShort whole (now (bytes .entry)) → string-bytes s ≡ shortText) ⌝ }
 {
     let lines = lines_of(heap, bytes)?;
     text_of(heap, &lines)

@@ -54,7 +54,7 @@ pub impl Rota for TurnByTurn as TurnByTurnRota {
     }
 
     fn window(&self) -> u8 {
-        self.hosts
+        self.host_count()
     }
 
     fn owner_of(&self, phase: u16) -> u8 {

@@ -2,18 +2,21 @@
 ghost use mathlib.Core.Path.{_≡_};
 ghost use Rattle.sets.specs.Sets.{count, has, isHostCount};
 
+// The most hosts that a council has, and that a mask can name.
+const HOSTS: u8 = 16;
+
 // Whether a council can have so many hosts.
 pub fn is_host_count(n: u8) -> bool
     ensures { λ r. ⌜ r ≡ isHostCount n ⌝ }
 {
-    n >= 1 && n <= 16
+    n >= 1 && n <= HOSTS
 }
 
-// Whether the set has the host. No set has a host of 16 or above.
+// Whether the set has the host, which none has from 16 on.
 pub fn has_host(hosts: u16, host: u8) -> bool
     ensures { λ r. ⌜ r ≡ has hosts host ⌝ }
 {
-    host < 16 && (hosts >> host) & 1 == 1
+    host < HOSTS && (hosts >> host) & 1 == 1
 }
 
 // How many hosts the set has.
