@@ -1,4 +1,4 @@
-// Candidates: what a council can settle on. A kind of candidate brings an equality that keeps three laws.
+// Candidates (the values that can be agreed on). A kind of candidate brings an equality that keeps three laws.
 ghost use mathlib.Core.Path.{_≡_};
 ghost use mathlib.Core.Bool.{Bool, true};
 ghost use mathlib.Core.List.{List};

@@ -1,4 +1,4 @@
-// Verdicts: what a host decided, and when.
+// Verdicts (decisions): what a host decided, and when.
 ghost use Rattle.std.specs.declared.option.Option.the-variants.{Some};
 ghost use Rattle.candidate.specs.Texts.{verdictText};
 use crate::Printable;

@@ -1,4 +1,4 @@
-// The bags behind a setup.
+// The bags behind a setup: each has the letters (messages) of one round.
 ghost use mathlib.Core.Path.{_≡_};
 ghost use Rattle.rehearsal.specs.Bags.{bagsOf, counted};
 

@@ -1,4 +1,4 @@
-// A rehearsal: a council's setup and its bags, from the bytes that were given to the text that is printed.
+// A rehearsal (a recorded run): a council's setup and its bags, from the bytes that were given to the text that is printed.
 ghost use mathlib.Core.Path.{_≡_};
 ghost use mathlib.Core.List.{List, [], _∷_, _++_};
 ghost use Prim.Native.Nat.{ℕ};

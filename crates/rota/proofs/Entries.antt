@@ -2,13 +2,13 @@
 use mathlib.Core.Path.{_≡_, refl, sym, ap, _∙_}
 use mathlib.Core.Bool.{Bool, true, false, _&&_}
 use mathlib.Core.List.{List}
-use Prim.Native.Nat.{ℕ, _<_}
+use Prim.Native.Nat.{ℕ, _≤_, _<_}
 use native.Mathlib.Omega.{arith}
-use lib.Dec.{eqb, ltb}
+use lib.Dec.{eqb, leb, ltb}
 use lib.ListN.{length, getD}
 use Rattle.std.specs.Orderings.{Decides, When}
 use Rattle.std.specs.Places.{Some-of}
-use Rattle.std.proofs.shelf.Tests.{ltb-true, eqb-true, eq-eqb, ne-eqb, and-parts, false≢true}
+use Rattle.std.proofs.shelf.Tests.{leb-true, ltb-true, eqb-true, eq-eqb, ne-eqb, and-parts, false≢true}
 use Rattle.sets.specs.Sets.{allBelow, isHostCount}
 use Rattle.sets.proofs.Tests.{all-each, all-cong, any-true, any-false, any-some, any-cong}
 use Rattle.rota.specs.Schedule.{Sound}
@@ -32,19 +32,18 @@ sound-entries n len es long exact =
 
 -- what makes entries a rota
 pub record Good (n : ℕ) (es : List ℕ) : Type 0 where
-  pub some : 0 < n
-  pub few : n < 17
-  pub long : 0 < length es
-  pub short : length es < 65
+  pub few : n ≤ 16
+  pub long : 1 ≤ length es
+  pub short : length es ≤ 64
   pub exact : namesExactly es (length es) n ≡ true
 
 pub good : (n : ℕ) (es : List ℕ) → isWritten n es ≡ true → Good n es
 good n es e =
     let a = and-parts (isHostCount n) _ e in
-    let b = and-parts (ltb 0 n) (ltb n 17) (a .0) in
-    let c = and-parts (ltb 0 (length es)) _ (a .1) in
-    let d = and-parts (ltb (length es) 65) _ (c .1) in
-    record { some = ltb-true 0 n (b .0); few = ltb-true n 17 (b .1); long = ltb-true 0 _ (c .0); short = ltb-true _ 65 (d .0); exact = d .1 }
+    let b = and-parts (leb 1 n) (leb n 16) (a .0) in
+    let c = and-parts (leb 1 (length es)) _ (a .1) in
+    let d = and-parts (leb (length es) 64) _ (c .1) in
+    record { few = leb-true n 16 (b .1); long = leb-true 1 _ (c .0); short = leb-true _ 64 (d .0); exact = d .1 }
 
 -- no entries name exactly no hosts
 pub names-none : (es : List ℕ) → namesExactly es 0 0 ≡ true

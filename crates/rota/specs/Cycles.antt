@@ -2,7 +2,7 @@
 use mathlib.Core.Bool.{Bool, cond, _&&_}
 use mathlib.Core.List.{List}
 use Prim.Native.Nat.{ℕ, _%_}
-use lib.Dec.{eqb, ltb}
+use lib.Dec.{eqb, leb, ltb}
 use lib.ListN.{length, getD}
 use Rattle.sets.specs.Sets.{allBelow, anyBelow, isHostCount}
 use Rattle.rota.specs.Schedule.{Schedule, phases}
@@ -29,7 +29,7 @@ namesExactly es len n = allBelow len (λ i. ltb (getD es i 0) n) && allBelow n (
 
 -- 1 to 64 entries can be a rota of n hosts
 abbrev pub isWritten : ℕ → List ℕ → Bool
-isWritten n es = isHostCount n && (ltb 0 (length es) && (ltb (length es) 65 && namesExactly es (length es) n))
+isWritten n es = isHostCount n && (leb 1 (length es) && (leb (length es) 64 && namesExactly es (length es) n))
 
 -- phase k belongs to the host that entry k mod the number of entries names
 abbrev pub byEntries : ℕ → List ℕ → Schedule

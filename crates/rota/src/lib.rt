@@ -1,4 +1,4 @@
-// Rotas (leader schedules): which host owns which phase.
+// Rotas (leader schedules): which host owns (leads) which phase (view).
 ghost use mathlib.Core.Path.{_≡_};
 ghost use Prim.Native.Nat.{_≤_};
 ghost use Rattle.rota.specs.Schedule.{Schedule, Sound};

@@ -50,8 +50,8 @@ fn are_rota(entries: &[u8], n: u8) -> bool
     ensures { λ r. ⌜ r ≡ isWritten n (now (entries .entry)) ⌝ }
 {
     is_host_count(n)
-        && !entries.is_empty()
-        && entries.len() < 65
+        && entries.len() >= 1
+        && entries.len() <= 64
         && are_below(entries, n)
         && name_all(entries, n)
 }

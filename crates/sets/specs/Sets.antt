@@ -2,7 +2,7 @@
 use mathlib.Core.Bool.{Bool, true, false, cond, _&&_, _||_}
 use mathlib.Core.List.{List, map}
 use Prim.Native.Nat.{ℕ, zero, suc, _+_, _/_, _%_, _^_}
-use lib.Dec.{eqb, ltb}
+use lib.Dec.{eqb, leb}
 use Rattle.std.specs.Iters.{counting}
 use Rattle.std.specs.declared.option.Option.{Option}
 use Rattle.std.specs.declared.option.Option.the-variants.{Some, None}
@@ -13,7 +13,7 @@ has mask i = eqb (mask / 2 ^ i % 2) 1
 
 -- a council has 1 to 16 hosts
 abbrev pub isHostCount : ℕ → Bool
-isHostCount n = ltb 0 n && ltb n 17
+isHostCount n = leb 1 n && leb n 16
 
 -- how many numbers below n pass
 unfoldable pub count : ℕ → (ℕ → Bool) → ℕ
@@ -30,6 +30,7 @@ unfoldable pub anyBelow : ℕ → (ℕ → Bool) → Bool
 anyBelow zero p = false
 anyBelow (suc n) p = p n || anyBelow n p
 
+-- the first of two that is there
 abbrev pub orElse : {X : Type 0} → Option X → Option X → Option X
 orElse None o = o
 orElse (Some x) o = Some x

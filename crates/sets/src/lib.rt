@@ -1,4 +1,4 @@
-// Sets of hosts as 16-bit masks, in which host j weighs 2^j.
+// Sets of hosts (the processes that are to agree) as 16-bit masks, in which host j weighs 2^j.
 ghost use mathlib.Core.Path.{_≡_};
 ghost use Rattle.sets.specs.Sets.{count, has, isHostCount};
 

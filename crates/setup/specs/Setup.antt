@@ -19,7 +19,7 @@ use Rattle.setup.specs.Numbers.{numberOf}
 
 -- a council has 1 to 32 candidates
 abbrev pub isCandidateCount : ℕ → Bool
-isCandidateCount m = ltb 0 m && ltb m 33
+isCandidateCount m = leb 1 m && leb m 32
 
 -- the set names only hosts below n
 abbrev pub onlyBelow : ℕ → ℕ → Bool
@@ -38,12 +38,14 @@ abbrev pub firstOf : {X : Type 0} → List (Bool × X) → Option X
 firstOf [] = None
 firstOf (row ∷ rows) = cond (row .0) (Some (row .1)) (firstOf rows)
 
+-- x, unless there is a fault
 abbrev pub unless : {X F : Type 0} → Option F → X → Result X F
 unless None x = Ok x
 unless (Some f) x = Err f
 
 -- over a kind of candidate, by its equality
 module _ {C : Type 0} (equal : C → C → Bool) where
+  -- both are there, and equal
   abbrev pub bothEqual : Option C → Option C → Bool
   bothEqual None y = false
   bothEqual (Some x) None = false
@@ -65,6 +67,7 @@ module _ {C : Type 0} (equal : C → C → Bool) where
   abbrev pub placeAt : ℕ → List C → List C → ℕ → Option ℕ
   placeAt faulty cs xs j = cond (has faulty j) None (placeOf cs (nth xs j))
 
+  -- the same for every host
   abbrev pub placesOf : ℕ → List C → List C → List (Option ℕ)
   placesOf faulty cs xs = perHost (placeAt faulty cs xs)
 

@@ -1,4 +1,4 @@
-// Whether a council can be made of what is given, and where each honest input stands among the candidates.
+// Whether a council (an instance of the consensus) can be made of what is given, and where each honest input stands among the candidates.
 ghost use mathlib.Core.Path.{_≡_};
 ghost use Prim.Native.Nat.{_<_, _≤_};
 ghost use lib.ListN.{length};
