@@ -32,13 +32,14 @@ const SIXTEEN: &str =
     "0 open\n1 open\n2 open\n3 open\n4 open\n5 open\n6 open\n7 open\n8 open\n9 open\n10 open\n11 open\n12 open\n13 open\n14 open\n15 open\n";
 
 // n, t, m, the fault set, and what is printed.
-const SETUPS: [(u8, u8, u8, u16, &str); 40] = [
+const SETUPS: [(u8, u8, u8, u16, &str); 41] = [
     // the ends of N
     (0, 0, 1, 0, "setup 1\n"),
     (1, 0, 1, 0, ONE),
     (16, 5, 1, 0, SIXTEEN),
     (17, 5, 1, 0, "setup 1\n"),
     (31, 0, 1, 0, "setup 1\n"),
+    (31, 7, 63, 0xffff, "setup 1\n"),
     // the ends of M
     (4, 1, 0, 0, "setup 4\n"),
     (4, 1, 1, 0, FOUR),
