@@ -20,6 +20,7 @@ lengthIn unit.Months n = Months n
 lengthIn unit.Years n = Months (12 * n)
 lengthIn unit.UntilClose n = UntilClose
 
+-- days with days, months with months, and until the close
 abbrev pub equalLengths : Length → Length → Bool
 equalLengths (Days m) (Days n) = eqb m n
 equalLengths (Days m) (Months n) = false
@@ -35,5 +36,6 @@ equalLengths UntilClose UntilClose = true
 abbrev pub lengthOf : Term → Length
 lengthOf t = lengthIn (t .unit) (t .count)
 
+-- one length makes one term
 abbrev pub equalTerms : Term → Term → Bool
 equalTerms a b = equalLengths (lengthOf a) (lengthOf b)

@@ -9,9 +9,11 @@ use Rattle.candidate.specs.declared.term.TimeUnit.{TimeUnit}
 use Rattle.candidate.specs.declared.term.TimeUnit.the-variants.{Days, Months, Years, UntilClose}
 use Rattle.candidate.specs.declared.verdict.Verdict.{Verdict}
 
+-- manual and snapshot, with a space between
 abbrev pub snapshotText : Snapshot → List ℕ
 snapshotText s = decimal (s .manual) ++ (codes " " ++ decimal (s .snapshot))
 
+-- the count and the unit's letter
 abbrev pub spanText : TimeUnit → ℕ → List ℕ
 spanText Days n = decimal n ++ codes "d"
 spanText Months n = decimal n ++ codes "m"

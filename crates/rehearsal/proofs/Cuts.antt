@@ -29,6 +29,7 @@ sort-short : (kind : Kind) (h : Head) (bytes : List ℕ) → length bytes < setu
 sort-short Snapshots h bytes l = rw (lt-ltb (length bytes) (4 + 8 * h .m + 8 * h .n) l)
 sort-short Terms h bytes l = rw (lt-ltb (length bytes) (4 + 2 * h .m + 2 * h .n) l)
 
+-- a cut has no head, or less than its head asks for
 lines-short : (whole bytes : List ℕ) → CutShort whole bytes → linesOf bytes ≡ Short ∷ []
 lines-short whole bytes cut = ⊎-elim
     (λ few. rw (lt-ltb (length bytes) 4 few))
@@ -39,5 +40,6 @@ lines-short whole bytes cut = ⊎-elim
     rw (le-ltb (length bytes) 4 long) (ap (λ (k : Option Kind). sortLines k (headOf bytes) bytes) sorted ∙ sort-short (cut .kind) (headOf bytes) bytes early))
     (cases-lt (length bytes) 4)
 
+-- what a cut prints
 pub cut-short : (whole bytes : List ℕ) → CutShort whole bytes → textOf (linesOf bytes) ≡ shortText
 cut-short whole bytes cut = ap textOf (lines-short whole bytes cut)

@@ -1,6 +1,6 @@
 -- Bags split off one after another, and the loop that counts them.
 use mathlib.Core.Path.{_≡_, refl, sym, ap, _∙_}
-use mathlib.Core.Bool.{Bool, true, false, cond}
+use mathlib.Core.Bool.{Bool, true}
 use mathlib.Core.List.{List, [], _∷_}
 use mathlib.Core.Logic.{⊎-elim}
 use Prim.Native.Nat.{ℕ, zero, suc, _+_, _-_, _≤_, _<_}
@@ -60,6 +60,7 @@ after whole c = record { whole = whole + c .whole; torn = c .torn }
 abbrev pub Counting : List ℕ → ℕ → List ℕ → Type 0
 Counting bytes whole rest = (whole + length rest ≤ length bytes) × (counted (bagsOf bytes) ≡ after whole (counted (bagsOf rest)))
 
+-- one bag more is counted
 pub past-one : (bytes rest : List ℕ) (whole s : ℕ) → s ≡ word rest 0 → 2 ≤ length rest → 2 + s ≤ length rest → Counting bytes whole rest
     → Counting bytes (whole + 1) (take (length rest - (2 + s)) (drop (2 + s) rest))
 past-one bytes rest whole s e p q h =
@@ -76,8 +77,10 @@ last bytes rest whole torn f h =
     let k : whole + 0 ≡ whole = omega arith in
     sym (h .1 ∙ ap (λ (b : Bags). after whole (counted b)) f ∙ ap (λ (j : ℕ). record { whole = j; torn = torn }) k)
 
+-- nothing, or half a byte count, is left
 pub last-few : (bytes rest : List ℕ) (whole : ℕ) (torn : Bool) → length rest < 2 → torn ≡ ltb 0 (length rest) → Counting bytes whole rest → record { whole = whole; torn = torn } ≡ counted (bagsOf bytes)
 last-few bytes rest whole torn p e = last bytes rest whole torn (bags-few rest p ∙ ap (λ (t : Bool). record { whole = []; torn = t }) (sym e))
 
+-- a bag is left that is cut off
 pub last-torn : (bytes rest : List ℕ) (whole s : ℕ) → s ≡ word rest 0 → 2 ≤ length rest → length rest < 2 + s → Counting bytes whole rest → record { whole = whole; torn = true } ≡ counted (bagsOf bytes)
 last-torn bytes rest whole s e p q = last bytes rest whole true (bags-torn rest p (omega arith))

@@ -12,6 +12,7 @@ pub record Bags : Type 0 where
   pub whole : List (List ℕ)
   pub torn : Bool
 
+-- one bag ahead of others
 abbrev pub withBag : List ℕ → Bags → Bags
 withBag b bags = record { whole = b ∷ bags .whole; torn = bags .torn }
 
@@ -27,5 +28,6 @@ firstBags (suc k) bs =
 abbrev pub bagsOf : List ℕ → Bags
 bagsOf bs = firstBags (length bs) bs
 
+-- how many they are
 abbrev pub counted : Bags → BagCount
 counted bags = record { whole = length (bags .whole); torn = bags .torn }

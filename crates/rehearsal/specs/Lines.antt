@@ -1,5 +1,5 @@
 -- The lines of a rehearsal.
-use mathlib.Core.Bool.{Bool, true, false, cond}
+use mathlib.Core.Bool.{Bool, cond}
 use mathlib.Core.List.{List, [], _∷_, _++_, map}
 use Prim.Native.Nat.{ℕ, _+_, _*_}
 use lib.Dec.{ltb}
@@ -32,9 +32,11 @@ lineIf b l = cond b (l ∷ []) []
 abbrev pub bagLines : BagCount → List Line
 bagLines bags = lineIf (ltb 0 (bags .whole)) (Unplayed (bags .whole)) ++ lineIf (bags .torn) Short
 
+-- what is printed of host j, while nobody decides
 abbrev pub hostLine : ℕ → ℕ → Line
 hostLine faulty j = cond (has faulty j) (HostFaulty j) (HostOpen j)
 
+-- a line for each host
 abbrev pub hostLines : ℕ → ℕ → List Line
 hostLines n faulty = map (hostLine faulty) (counting 0 n)
 
@@ -54,11 +56,13 @@ kindLines equal size read h bs =
     let bagsAt = 4 + size * h .m + size * h .n in
     cond (ltb (length bs) bagsAt) (Short ∷ []) (councilLines equal h (listAt size read bs 4 (h .m)) (listAt size read bs inputsAt (h .n)) (drop bagsAt bs))
 
+-- by the kind of candidate that the sort says
 abbrev pub sortLines : Option Kind → Head → List ℕ → List Line
 sortLines None h bs = Sort ∷ []
 sortLines (Some Snapshots) h bs = kindLines equalSnapshots 8 snapshotAt h bs
 sortLines (Some Terms) h bs = kindLines equalTerms 2 termAt h bs
 
+-- where there is no head, a piece is missing
 abbrev pub headLines : Option Head → List ℕ → List Line
 headLines None bs = Short ∷ []
 headLines (Some h) bs = sortLines (h .kind) h bs

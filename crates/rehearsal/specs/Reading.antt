@@ -15,13 +15,15 @@ use Rattle.rehearsal.specs.declared.read.Head.{Head}
 use Rattle.rehearsal.specs.declared.read.Kind.{Kind}
 use Rattle.rehearsal.specs.declared.read.Kind.the-variants.{Snapshots, Terms}
 
+-- the byte at a place; past the end, where nothing is read, 0
 abbrev pub byte : List ℕ → ℕ → ℕ
 byte bs at = getD bs at 0
 
--- the number in two bytes, and in four
+-- the number in two bytes
 abbrev pub word : List ℕ → ℕ → ℕ
 word bs at = byte bs at * 256 + byte bs (at + 1)
 
+-- the number in four bytes
 abbrev pub longWord : List ℕ → ℕ → ℕ
 longWord bs at = byte bs at * 16777216 + byte bs (at + 1) * 65536 + byte bs (at + 2) * 256 + byte bs (at + 3)
 
@@ -39,6 +41,7 @@ headOf bs = record {
   faulty = word bs 2;
 }
 
+-- the head, if its four bytes are there
 abbrev pub headIn : List ℕ → Option Head
 headIn bs = cond (ltb (length bs) 4) None (Some (headOf bs))
 
@@ -46,6 +49,7 @@ headIn bs = cond (ltb (length bs) 4) None (Some (headOf bs))
 abbrev pub snapshotAt : List ℕ → ℕ → Snapshot
 snapshotAt bs at = record { manual = longWord bs at; snapshot = longWord bs (at + 4) }
 
+-- the unit of a term, in two bits
 abbrev pub unitOf : ℕ → TimeUnit
 unitOf k = cond (eqb k 0) Days (cond (eqb k 1) Months (cond (eqb k 2) Years UntilClose))
 

@@ -8,6 +8,7 @@ use Rattle.setup.specs.Numbers.{number}
 use Rattle.rehearsal.specs.declared.line.Line.{Line}
 use Rattle.rehearsal.specs.declared.line.Line.the-variants.{Sort, Short, Setup, Unplayed, HostOpen, HostFaulty}
 
+-- each line, without its end
 abbrev pub lineText : Line → List ℕ
 lineText Sort = codes "sort"
 lineText Short = codes "short"

@@ -36,6 +36,7 @@ mod bags;
 mod line;
 mod read;
 
+// Just this line.
 fn one_line(heap: Global, line: Line) -> Result<Vec<Line>, AllocError>
     ensures { λ r. ⌜ made r (λ v. vec-items v ≡ line ∷ []) ⌝ }
 {
@@ -59,6 +60,7 @@ fn bag_lines(heap: Global, bytes: &[u8]) -> Result<Vec<Line>, AllocError>
     Ok(lines)
 }
 
+// What is printed of a host, while nobody decides.
 fn host_line(faulty: u16, host: u8) -> Line
     ensures { λ r. ⌜ r ≡ hostLine faulty host ⌝ }
 {
@@ -132,6 +134,7 @@ fn lines_of(heap: Global, bytes: &[u8]) -> Result<Vec<Line>, AllocError>
     }
 }
 
+// Adds a line with its end.
 fn add_line(text: &mut String, line: Line) -> Result<(), AllocError>
     ensures { λ r. ⌜ made r (λ _. string-bytes (now (text .exit)) ≡ string-bytes (now (text .entry)) ++ endedLine line) ⌝ }
 {

@@ -4,6 +4,7 @@ ghost use Rattle.rehearsal.specs.Texts.{lineText};
 use setup::SetupFault;
 use std::fmt;
 
+// A line, by what it says.
 #[derive(Clone, Copy)]
 pub enum Line {
     // the sort is no kind of candidate

@@ -29,6 +29,7 @@ pub struct Head {
     pub faulty: u16,
 }
 
+// The kind of candidate that a sort stands for.
 fn kind_of(sort: u8) -> Option<Kind>
     ensures { λ r. ⌜ r ≡ kindOf sort ⌝ }
 {
@@ -61,6 +62,7 @@ pub trait Packed: Sized {
 
     ghost unpacked: { List ℕ → ℕ → Self };
 
+    // How many bytes one takes.
     fn packed_size() -> usize
         ensures value { λ r. ⌜ r ≡ size ⌝ }
         ensures bound { λ r. ⌜ r ≤ 8 ⌝ };
@@ -93,6 +95,7 @@ pub impl Packed for Snapshot as SnapshotPacked {
     }
 }
 
+// The unit that two bits stand for.
 fn unit_of(code: u8) -> TimeUnit
     ensures { λ r. ⌜ r ≡ unitOf code ⌝ }
 {

@@ -1,19 +1,19 @@
 -- What the tests of a written rota say.
-use mathlib.Core.Path.{_≡_, refl, sym, ap, _∙_}
+use mathlib.Core.Path.{_≡_, refl, sym, ap}
 use mathlib.Core.Bool.{Bool, true, false, _&&_}
 use mathlib.Core.List.{List}
 use Prim.Native.Nat.{ℕ, _≤_, _<_}
 use native.Mathlib.Omega.{arith}
 use lib.Dec.{eqb, leb, ltb}
 use lib.ListN.{length, getD}
-use Rattle.std.specs.Orderings.{Decides, When}
+use Rattle.std.specs.Orderings.{Decides}
 use Rattle.std.specs.Places.{Some-of}
 use Rattle.std.proofs.shelf.Tests.{leb-true, ltb-true, eqb-true, eq-eqb, ne-eqb, and-parts, false≢true}
 use Rattle.sets.specs.Sets.{allBelow, isHostCount}
 use Rattle.sets.proofs.Tests.{all-each, all-cong, any-true, any-false, any-some, any-cong}
 use Rattle.rota.specs.Schedule.{Sound}
 use Rattle.rota.specs.Cycles.{cycle, isWritten, names, namesExactly}
-use Rattle.rota.proofs.Repeating.{Entry, sound-cycle}
+use Rattle.rota.proofs.Repeating.{sound-cycle}
 
 -- what `contains` answers
 pub contains-names : (es : List ℕ) (h : ℕ) (r : Bool) → Some-of (λ y t. Decides t (y ≡ h)) es r → r ≡ names es (length es) h
@@ -37,6 +37,7 @@ pub record Good (n : ℕ) (es : List ℕ) : Type 0 where
   pub short : length es ≤ 64
   pub exact : namesExactly es (length es) n ≡ true
 
+-- the tests, taken apart
 pub good : (n : ℕ) (es : List ℕ) → isWritten n es ≡ true → Good n es
 good n es e =
     let a = and-parts (isHostCount n) _ e in

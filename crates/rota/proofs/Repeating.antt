@@ -10,9 +10,10 @@ use lib.Dec.{ltb}
 use Rattle.std.proofs.shelf.Ways.{tells}
 use Rattle.std.proofs.shelf.Tests.{cases-lt, cond-true, lt-ltb}
 use Rattle.sets.specs.Sets.{isHostCount}
-use Rattle.rota.specs.Schedule.{Schedule, Serves, Sound, phases}
+use Rattle.rota.specs.Schedule.{Schedule, Sound, phases}
 use Rattle.rota.specs.Cycles.{void, cycle, turnByTurn}
 
+-- a number from k on, less than len past it, that leaves i
 pub record Turn (len i k : ℕ) : Type 0 where
   pub at : ℕ
   pub from : k ≤ at
@@ -53,6 +54,7 @@ sound-cycle n len entry long low all = record {
   beyond = λ k past. grind (arith, tells);
 }
 
+-- no hosts, nothing to serve
 pub sound-void : Sound void
 sound-void = record {
   served = λ h k host room. absurd (omega arith);
@@ -65,5 +67,6 @@ pub sound-if : (b : Bool) (s : Schedule) → (b ≡ true → Sound s) → Sound 
 sound-if true s h = h refl
 sound-if false s h = sound-void
 
+-- turn by turn keeps the law
 pub sound-turns : (n : ℕ) → Sound (turnByTurn n)
 sound-turns n = sound-if (isHostCount n) (cycle n n (λ i. i)) (λ _. sound-cycle n n (λ i. i) (λ some. some) (λ i l. l) (λ h l. record { at = h; low = l; is = refl }))

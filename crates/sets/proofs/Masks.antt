@@ -1,6 +1,6 @@
 -- Laws of masks and of lists with an item for each host.
 use mathlib.Core.Path.{_≡_, refl, sym, ap, _∙_}
-use mathlib.Core.Bool.{Bool, true, false, cond}
+use mathlib.Core.Bool.{false, cond}
 use mathlib.Core.List.{List}
 use Prim.Native.Nat.{ℕ, zero, suc, _+_, _*_, _/_, _%_, _^_, _≤_, _<_}
 use native.Mathlib.Omega.{arith}
@@ -31,12 +31,14 @@ has-past n m i l h =
     let k : m < 2 ^ i = omega (arith, pow-mono h) in
     ap (λ (x : ℕ). eqb (x % 2) 1) (div-eq-of-lt k)
 
+-- a bit has as many ones as it is
 ones-bit : (b : ℕ) → b < 2 → ones b ≡ cond (eqb b 1) 1 0
 unfolding ones
 ones-bit zero h = refl
 ones-bit (suc zero) h = refl
 ones-bit (suc (suc b)) h = absurd (omega arith)
 
+-- the bits below n + 1 are bit n and those below it
 split-mask : (n m : ℕ) → m % 2 ^ suc n ≡ (m / 2 ^ n % 2) * 2 ^ n + m % 2 ^ n
 split-mask n m = ap (λ (k : ℕ). m % 2 ^ k) (sym (one-add n)) ∙ mod-pow-add m 1 n
 

@@ -10,20 +10,17 @@ use Rattle.std.specs.declared.option.Option.{Option}
 use Rattle.std.specs.declared.option.Option.the-variants.{Some, None}
 use Rattle.sets.specs.Sets.{allBelow, anyBelow, orElse, lowest}
 
--- every number below n passes
+-- a loop that begins: every number below 0 passes
 pub all-none : (p : ℕ → Bool) → allBelow 0 p ≡ true
 unfolding allBelow
 all-none p = refl
 
+-- a loop that goes on, since n passes too
 pub all-more : (n : ℕ) (p : ℕ → Bool) → p n ≡ true → allBelow n p ≡ true → allBelow (n + 1) p ≡ true
 unfolding allBelow
 all-more n p e h = ap (λ (k : ℕ). allBelow k p) (add-one n) ∙ rw (e, h)
 
-pub all-true : (n : ℕ) (p : ℕ → Bool) → ((i : ℕ) → i < n → p i ≡ true) → allBelow n p ≡ true
-unfolding allBelow
-all-true zero p h = refl
-all-true (suc n) p h = let a = all-true n p (λ i l. h i (omega arith)) in let b = h n (omega arith) in rw (b, a)
-
+-- one that fails is enough
 pub all-false : (n : ℕ) (p : ℕ → Bool) (i : ℕ) → i < n → p i ≡ false → allBelow n p ≡ false
 unfolding allBelow
 all-false zero p i l h = absurd (omega arith)
@@ -42,7 +39,7 @@ unfolding allBelow
 all-cong zero p q e = refl
 all-cong (suc n) p q e = let a = all-cong n p q (λ i l. e i (omega arith)) in let b = e n (omega arith) in cc
 
--- some number below n passes
+-- one that passes is enough
 pub any-true : (n : ℕ) (p : ℕ → Bool) (i : ℕ) → i < n → p i ≡ true → anyBelow n p ≡ true
 unfolding anyBelow
 any-true zero p i l h = absurd (omega arith)
@@ -51,6 +48,7 @@ any-true (suc n) p i l h = ⊎-elim
     (λ o. let a = any-true n p i (omega arith) h in let c = cases-bool (p n) in grind arith)
     (cases-eq i n)
 
+-- none passes
 pub any-false : (n : ℕ) (p : ℕ → Bool) → ((i : ℕ) → i < n → p i ≡ false) → anyBelow n p ≡ false
 unfolding anyBelow
 any-false zero p h = refl
@@ -65,17 +63,19 @@ any-some (suc n) p h = ⊎-elim
     (λ a. let w = any-some n p (grind arith) in (w .0, omega arith, w .2))
     (cases-bool (p n))
 
+-- the same tests have the same answer
 pub any-cong : (n : ℕ) (p q : ℕ → Bool) → ((i : ℕ) → i < n → p i ≡ q i) → anyBelow n p ≡ anyBelow n q
 unfolding anyBelow
 any-cong zero p q e = refl
 any-cong (suc n) p q e = let a = any-cong n p q (λ i l. e i (omega arith)) in let b = e n (omega arith) in cc
 
--- the lowest that passes
+-- none passes
 pub lowest-none : (n : ℕ) (p : ℕ → Bool) → ((i : ℕ) → i < n → p i ≡ false) → lowest n p ≡ None
 unfolding lowest
 lowest-none zero p h = refl
 lowest-none (suc n) p h = let a = lowest-none n p (λ i l. h i (omega arith)) in let b = h n (omega arith) in rw (a, b)
 
+-- the first that passes
 pub lowest-some : (n : ℕ) (p : ℕ → Bool) (i : ℕ) → i < n → p i ≡ true → ((k : ℕ) → k < i → p k ≡ false) → lowest n p ≡ Some i
 unfolding lowest
 lowest-some zero p i l h e = absurd (omega arith)

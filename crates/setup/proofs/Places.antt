@@ -27,6 +27,7 @@ module _ {C : Type 0} (equal : C → C → Bool) where
   pub both-at : (cs : List C) (i j : ℕ) (x y : C) → i < length cs → j < length cs → x ≡ getD cs i x → y ≡ getD cs j y → bothEqual equal (nth cs i) (nth cs j) ≡ equal x y
   both-at cs i j x y li lj xi yj = one-at cs i x (nth cs j) li xi ∙ ap (bothEqual equal (Some x)) (nth-read cs (length cs) j y refl lj yj)
 
+  -- nothing is equal to what is not there
   none-equal : (o : Option C) → bothEqual equal o None ≡ false
   none-equal None = refl
   none-equal (Some x) = refl
@@ -61,6 +62,7 @@ module _ {C : Type 0} (equal : C → C → Bool) where
         let apart = all-each j (λ k. not (bothEqual equal (nth cs k) (nth cs j))) new i l in
         true≢false (sym apart ∙ ap not (joined (nth cs i) (nth cs j) x p q))
 
+    -- so the lowest place is the only one
     only-place : (cs : List C) (x : C) (place : ℕ) → distinct equal cs ≡ true → placeOf equal cs (Some x) ≡ Some place → OnlyPlace equal cs x place
     only-place cs x place d e =
         let w = lowest-is (length cs) (λ k. bothEqual equal (nth cs k) (Some x)) place e in
@@ -75,6 +77,7 @@ module _ {C : Type 0} (equal : C → C → Bool) where
               ];
         }
 
+    -- a place that was found
     some-place : (o : Option ℕ) → isSome o ≡ true → (place : ℕ) × (o ≡ Some place)
     some-place None e = absurd (false≢true e)
     some-place (Some p) e = (p, refl)

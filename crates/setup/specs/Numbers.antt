@@ -7,6 +7,7 @@ use Rattle.std.specs.declared.result.Result.the-variants.{Ok, Err}
 use Rattle.setup.specs.declared.SetupFault.{SetupFault}
 use Rattle.setup.specs.declared.SetupFault.the-variants.{HostCount, FaultBound, FaultSet, CandidateCount, EqualCandidates, InputCount, StrayInput, RotaHosts}
 
+-- the setup numbers
 abbrev pub number : SetupFault → ℕ
 number HostCount = 1
 number FaultBound = 2

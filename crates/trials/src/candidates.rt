@@ -13,6 +13,7 @@ use candidate::verdict::VerdictDisplay;
 use std::alloc::Global;
 use std::test::*;
 
+// So many of a unit.
 fn term(unit: TimeUnit, count: u16) -> Term {
     Term { unit, count }
 }

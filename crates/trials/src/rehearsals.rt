@@ -19,11 +19,13 @@ fn of_days(heap: Global, n: u8, t: u8, m: u8, faulty: u16) -> Result<Vec<u8>, Al
     Ok(bytes)
 }
 
+// The bytes print just this text.
 fn prints(heap: Global, bytes: &[u8], text: &str) -> Result<(), Fail> {
     let printed = rehearse(heap, bytes)?;
     check_eq(printed.as_str(), text)
 }
 
+// What good setups of one, four and sixteen honest hosts print.
 const ONE: &str = "0 open\n";
 
 const FOUR: &str = "0 open\n1 open\n2 open\n3 open\n";
@@ -46,7 +48,7 @@ const SETUPS: [(u8, u8, u8, u16, &str); 41] = [
     (4, 1, 32, 0, FOUR),
     (4, 1, 33, 0, "setup 4\n"),
     (4, 1, 63, 0, "setup 4\n"),
-    // every t, with one host too few and with just enough
+    // every t, from 1 to 5 with one host too few and with just enough
     (1, 1, 1, 0, "setup 2\n"),
     (3, 1, 1, 0, "setup 2\n"),
     (4, 1, 1, 0, FOUR),
@@ -144,6 +146,7 @@ const ONE_SNAPSHOT: [u8; 20] = [
     1,
 ];
 
+// The candidate is two years, and the input 24 months.
 const ONE_TERM: [u8; 8] = [0x08, 0x05, 0, 0, 0x80, 2, 0x40, 24];
 
 #[test]
@@ -209,6 +212,7 @@ const SNAPSHOTS: [([u8; 8], &str); 6] = [
     ([7, 1, 7, 2, 8, 1, 7, 1], "setup 7\n"),
 ];
 
+// A head, and then small numbers in 32 bits each.
 fn of_snapshots(heap: Global, head: [u8; 4], numbers: &[u8]) -> Result<Vec<u8>, AllocError> {
     let mut bytes = head.to_vec(heap)?;
     for number in numbers {

@@ -1,5 +1,4 @@
 // Who owns which phase.
-use rota::PHASES;
 use rota::Rota;
 use rota::TurnByTurn;
 use rota::TurnByTurnRota;

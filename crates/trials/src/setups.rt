@@ -10,6 +10,7 @@ use rota::written::entries::WrittenRota;
 use setup::judge;
 use std::test::*;
 
+// Two years, and a day.
 const CANDIDATES: [Term; 2] = [
     Term {
         unit: TimeUnit::Years,

@@ -11,9 +11,11 @@ use Rattle.candidate.specs.Equality.{equalTerms}
 use Rattle.rota.specs.Cycles.{turnByTurn, byEntries}
 use Rattle.setup.specs.Setup.{setupNumber}
 
+-- so many of a unit
 abbrev pub term : TimeUnit → ℕ → Term
 term u n = record { unit = u; count = n }
 
+-- true as 1, false as 0
 abbrev pub bit : Bool → ℕ
 bit true = 1
 bit false = 0

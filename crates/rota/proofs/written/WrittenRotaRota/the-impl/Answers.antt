@@ -1,4 +1,3 @@
-use Prim.Native.Nat.{ℕ}
 use lib.Dec.{ltb}
 use lib.ListN.{getD}
 use Rattle.rota.specs.Cycles.{cycle}
