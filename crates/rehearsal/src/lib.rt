@@ -155,7 +155,7 @@ fn text_of(heap: Global, lines: &[Line]) -> Result<String, AllocError>
     Ok(text)
 }
 
-// All that a rehearsal of these bytes prints. It fails only for want of memory.
+// All that a rehearsal of these bytes prints; an `Err` stands for want of memory.
 // Wherever a setup is cut off before its end, `short` is all.
 pub fn rehearse(heap: Global, bytes: &[u8]) -> Result<String, AllocError>
     ensures text { λ r. ⌜ made r (λ s. string-bytes s ≡ textOf (linesOf (now (bytes .entry)))) ⌝ }
