@@ -1,23 +1,12 @@
 -- A setup that was cut off before its end.
 use mathlib.Core.Path.{_≡_}
 use mathlib.Core.List.{List, [], _∷_, _++_}
-use Prim.Native.Nat.{ℕ, _+_, _*_, _<_}
+use Prim.Native.Nat.{ℕ, _<_}
 use lib.Chars.{codes}
 use lib.ListN.{length}
 use Rattle.std.specs.declared.option.Option.the-variants.{Some}
-use Rattle.rehearsal.specs.declared.read.Head.{Head}
 use Rattle.rehearsal.specs.declared.read.Kind.{Kind}
-use Rattle.rehearsal.specs.declared.read.Kind.the-variants.{Snapshots, Terms}
-use Rattle.rehearsal.specs.Reading.{headOf}
-
--- how many bytes a candidate takes
-abbrev pub sizeIn : Kind → ℕ
-sizeIn Snapshots = 8
-sizeIn Terms = 2
-
--- how many bytes the head, M candidates and N inputs take
-abbrev pub setupSize : Kind → Head → ℕ
-setupSize kind h = 4 + sizeIn kind * h .m + sizeIn kind * h .n
+use Rattle.rehearsal.specs.Reading.{headOf, setupSize, sizeIn}
 
 -- the bytes begin as a rehearsal of some kind of candidate does, and end before its setup does
 pub record CutShort (whole bytes : List ℕ) : Type 0 where
@@ -25,7 +14,7 @@ pub record CutShort (whole bytes : List ℕ) : Type 0 where
   pub sorted : headOf whole .kind ≡ Some kind
   pub rest : List ℕ
   pub begins : whole ≡ bytes ++ rest
-  pub early : length bytes < setupSize kind (headOf whole)
+  pub early : length bytes < setupSize (sizeIn kind) (headOf whole)
 
 -- the one line that is then printed
 abbrev pub shortText : List ℕ

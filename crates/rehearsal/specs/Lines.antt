@@ -1,7 +1,7 @@
 -- The lines of a rehearsal.
 use mathlib.Core.Bool.{Bool, cond}
 use mathlib.Core.List.{List, [], _∷_, _++_, map}
-use Prim.Native.Nat.{ℕ, _+_, _*_}
+use Prim.Native.Nat.{ℕ}
 use lib.Dec.{ltb}
 use lib.ListN.{length, drop}
 use Rattle.std.specs.Iters.{counting}
@@ -22,7 +22,7 @@ use Rattle.rehearsal.specs.declared.read.Head.{Head}
 use Rattle.rehearsal.specs.declared.read.Kind.{Kind}
 use Rattle.rehearsal.specs.declared.read.Kind.the-variants.{Snapshots, Terms}
 use Rattle.rehearsal.specs.Bags.{bagsOf, counted}
-use Rattle.rehearsal.specs.Reading.{headIn, listAt, snapshotAt, termAt}
+use Rattle.rehearsal.specs.Reading.{headIn, inputsAt, listAt, setupSize, sizeIn, snapshotAt, termAt}
 
 -- a line that stands only where b holds
 abbrev pub lineIf : Bool → Line → List Line
@@ -52,15 +52,14 @@ councilLines equal h cs xs bags = answerLines (judged equal (h .n) (h .t) (h .fa
 -- behind the head stand M candidates, N inputs and the bags; a candidate takes `size` bytes, and `read` says which stands at a place
 abbrev pub kindLines : {C : Type 0} → (C → C → Bool) → ℕ → (List ℕ → ℕ → C) → Head → List ℕ → List Line
 kindLines equal size read h bs =
-    let inputsAt = 4 + size * h .m in
-    let bagsAt = 4 + size * h .m + size * h .n in
-    cond (ltb (length bs) bagsAt) (Short ∷ []) (councilLines equal h (listAt size read bs 4 (h .m)) (listAt size read bs inputsAt (h .n)) (drop bagsAt bs))
+    cond (ltb (length bs) (setupSize size h)) (Short ∷ [])
+    (councilLines equal h (listAt size read bs 4 (h .m)) (listAt size read bs (inputsAt size h) (h .n)) (drop (setupSize size h) bs))
 
 -- by the kind of candidate that the sort says
 abbrev pub sortLines : Option Kind → Head → List ℕ → List Line
 sortLines None h bs = Sort ∷ []
-sortLines (Some Snapshots) h bs = kindLines equalSnapshots 8 snapshotAt h bs
-sortLines (Some Terms) h bs = kindLines equalTerms 2 termAt h bs
+sortLines (Some Snapshots) h bs = kindLines equalSnapshots (sizeIn Snapshots) snapshotAt h bs
+sortLines (Some Terms) h bs = kindLines equalTerms (sizeIn Terms) termAt h bs
 
 -- where there is no head, a piece is missing
 abbrev pub headLines : Option Head → List ℕ → List Line

@@ -45,6 +45,19 @@ headOf bs = record {
 abbrev pub headIn : List ℕ → Option Head
 headIn bs = cond (ltb (length bs) 4) None (Some (headOf bs))
 
+-- how many bytes a candidate takes
+abbrev pub sizeIn : Kind → ℕ
+sizeIn Snapshots = 8
+sizeIn Terms = 2
+
+-- how many bytes the head and M candidates of a size take
+abbrev pub inputsAt : ℕ → Head → ℕ
+inputsAt size h = 4 + size * h .m
+
+-- how many bytes the whole setup takes, with N inputs
+abbrev pub setupSize : ℕ → Head → ℕ
+setupSize size h = inputsAt size h + size * h .n
+
 -- manual (32 bits), snapshot (32)
 abbrev pub snapshotAt : List ℕ → ℕ → Snapshot
 snapshotAt bs at = record { manual = longWord bs at; snapshot = longWord bs (at + 4) }

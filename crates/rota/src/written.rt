@@ -56,7 +56,7 @@ fn are_rota(entries: &[u8], n: u8) -> bool
         && name_all(entries, n)
 }
 
-// The entries, with zeros behind them.
+// The entries at the front of a full array; what stands behind them is never read.
 fn padded(entries: &[u8]) -> [u8; 64]
     requires { ⌜ length (now entries) ≤ 64 ⌝ }
     ensures { λ r. ⌜ ((k : ℕ) → k < length (now (entries .entry)) → getD r k 0 ≡ getD (now (entries .entry)) k 0) ⌝ }
