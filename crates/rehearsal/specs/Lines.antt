@@ -13,7 +13,7 @@ use Rattle.candidate.specs.Equality.{equalSnapshots, equalTerms}
 use Rattle.sets.specs.Sets.{has}
 use Rattle.rota.specs.Cycles.{turnByTurn}
 use Rattle.setup.specs.declared.InputPlaces.{InputPlaces}
-use Rattle.setup.specs.declared.SetupFault.{SetupFault}
+use Rattle.fault.specs.declared.Refusal.{Refusal}
 use Rattle.setup.specs.Setup.{judged}
 use Rattle.rehearsal.specs.declared.bags.BagCount.{BagCount}
 use Rattle.rehearsal.specs.declared.line.Line.{Line}
@@ -41,7 +41,7 @@ abbrev pub hostLines : ℕ → ℕ → List Line
 hostLines n faulty = map (hostLine faulty) (counting 0 n)
 
 -- why no council was made, or the lines of the one that was
-abbrev pub answerLines : Result InputPlaces SetupFault → Head → List ℕ → List Line
+abbrev pub answerLines : Result InputPlaces Refusal → Head → List ℕ → List Line
 answerLines (Err f) h bags = Setup f ∷ []
 answerLines (Ok places) h bags = bagLines (counted (bagsOf bags)) ++ hostLines (h .n) (h .faulty)
 

@@ -4,7 +4,7 @@ use Prim.Native.Nat.{ℕ}
 use lib.Chars.{codes}
 use Rattle.std.specs.Joined.{joined}
 use Rattle.std.specs.Written.{decimal}
-use Rattle.setup.specs.Numbers.{number}
+use Rattle.fault.specs.Refusals.{number}
 use Rattle.rehearsal.specs.declared.line.Line.{Line}
 use Rattle.rehearsal.specs.declared.line.Line.the-variants.{Sort, Short, Setup, Unplayed, HostOpen, HostFaulty}
 

@@ -1,7 +1,7 @@
 // What a rehearsal prints, line by line.
 ghost use Rattle.std.specs.declared.option.Option.the-variants.{Some};
 ghost use Rattle.rehearsal.specs.Texts.{lineText};
-use setup::SetupFault;
+use fault::Refusal;
 use std::fmt;
 
 // A line, by what it says.
@@ -12,7 +12,7 @@ pub enum Line {
     // a piece is missing
     Short,
     // no council can be made
-    Setup(SetupFault),
+    Setup(Refusal),
     // so many bags were given
     Unplayed(usize),
     // an honest host that has not decided
@@ -28,8 +28,8 @@ pub impl fmt::Display for Line as LineDisplay {
         match *self {
             Line::Sort => write!(f, "sort"),
             Line::Short => write!(f, "short"),
-            Line::Setup(fault) => {
-                let number = fault.number();
+            Line::Setup(refusal) => {
+                let number = refusal.number();
                 write!(f, "setup {number}")
             }
             Line::Unplayed(bags) => write!(f, "bags not played: {bags}"),

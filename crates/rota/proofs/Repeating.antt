@@ -9,8 +9,8 @@ use lib.Arith.{digits-mod}
 use lib.Dec.{ltb}
 use Rattle.std.proofs.shelf.Ways.{tells}
 use Rattle.std.proofs.shelf.Tests.{cases-lt, cond-true, lt-ltb}
-use Rattle.sets.specs.Sets.{isHostCount}
-use Rattle.rota.specs.Schedule.{Schedule, Sound, phases}
+use Rattle.sets.specs.Sets.{isHostCount, phases}
+use Rattle.rota.specs.Schedule.{Schedule, Sound}
 use Rattle.rota.specs.Cycles.{void, cycle, turnByTurn}
 
 -- a number from k on, less than len past it, that leaves i

@@ -4,8 +4,8 @@ use mathlib.Core.List.{List}
 use Prim.Native.Nat.{ℕ, _%_}
 use lib.Dec.{eqb, leb, ltb}
 use lib.ListN.{length, getD}
-use Rattle.sets.specs.Sets.{allBelow, anyBelow, isHostCount}
-use Rattle.rota.specs.Schedule.{Schedule, phases}
+use Rattle.sets.specs.Sets.{allBelow, anyBelow, isHostCount, phases}
+use Rattle.rota.specs.Schedule.{Schedule}
 
 -- the schedule of no hosts
 abbrev pub void : Schedule

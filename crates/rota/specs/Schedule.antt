@@ -1,10 +1,7 @@
 -- What a rota means, and the law that every rota keeps.
 use mathlib.Core.Path.{_≡_}
 use Prim.Native.Nat.{ℕ, _+_, _≤_, _<_}
-
--- phases are numbered from 0 to 2,047
-abbrev pub phases : ℕ
-phases = 2048
+use Rattle.sets.specs.Sets.{phases}
 
 -- a leader schedule: how many hosts take part, the window, and the owner (leader) of each phase
 pub record Schedule : Type 0 where

@@ -3,12 +3,10 @@ ghost use mathlib.Core.Path.{_≡_};
 ghost use Prim.Native.Nat.{_≤_};
 ghost use Rattle.rota.specs.Schedule.{Schedule, Sound};
 ghost use Rattle.rota.specs.Cycles.{turnByTurn};
+use sets::PHASES;
 use sets::is_host_count;
 
 pub mod written;
-
-// Phases are numbered from 0 to 2,047.
-pub const PHASES: u16 = 2048;
 
 // A rota, by the schedule that it means. No question alters it.
 pub trait Rota {

@@ -7,9 +7,9 @@ ghost use lib.ListN.{length, getD};
 ghost use Rattle.sets.specs.Sets.{allBelow};
 ghost use Rattle.rota.specs.Cycles.{byEntries, isWritten, names};
 ghost use Rattle.rota.specs.Written.{writtenSchedule};
-use crate::PHASES;
 use crate::Rota;
 use entries::WrittenRota;
+use sets::PHASES;
 use sets::is_host_count;
 
 pub mod entries;

@@ -13,7 +13,7 @@ use lib.ListN.{length, getD}
 use lib.Pow.{pow-mono}
 use Rattle.std.proofs.shelf.Bits.{pow-pos, and-mask, mod-pow-add, mod-below}
 use Rattle.std.proofs.shelf.Counted.{fill-by-all, getD-map-counting}
-use Rattle.sets.specs.Sets.{has, count, perHost}
+use Rattle.sets.specs.Sets.{has, sumBelow, count, perHost}
 
 -- a bit is 0 or 1
 bit-below : (m i : ℕ) → m / 2 ^ i % 2 < 2
@@ -44,7 +44,7 @@ split-mask n m = ap (λ (k : ℕ). m % 2 ^ k) (sym (one-add n)) ∙ mod-pow-add 
 
 -- what `count_ones` answers
 pub ones-count : (n m : ℕ) → ones (m % 2 ^ n) ≡ count n (has m)
-unfolding count has ones
+unfolding sumBelow has ones
 ones-count zero m = ap ones (mod-one m)
 ones-count (suc n) m =
     let s = ap ones (split-mask n m) ∙ ones-cat n (m / 2 ^ n % 2) (m % 2 ^ n) (mod-below m (2 ^ n) (pow-pos n)) in

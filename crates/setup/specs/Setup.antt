@@ -10,20 +10,16 @@ use Rattle.std.specs.declared.option.Option.{Option}
 use Rattle.std.specs.declared.option.Option.the-variants.{Some, None}
 use Rattle.std.specs.declared.result.Result.{Result}
 use Rattle.std.specs.declared.result.Result.the-variants.{Ok, Err}
-use Rattle.sets.specs.Sets.{has, count, allBelow, lowest, perHost, isHostCount}
+use Rattle.sets.specs.Sets.{has, onlyBelow, count, allBelow, lowest, perHost, isHostCount}
 use Rattle.rota.specs.Schedule.{Schedule}
-use Rattle.setup.specs.declared.SetupFault.{SetupFault}
-use Rattle.setup.specs.declared.SetupFault.the-variants.{HostCount, FaultBound, FaultSet, CandidateCount, EqualCandidates, InputCount, StrayInput, RotaHosts}
+use Rattle.fault.specs.Refusals.{numberOf, firstOf, unless}
+use Rattle.fault.specs.declared.Refusal.{Refusal}
+use Rattle.fault.specs.declared.Refusal.the-variants.{HostCount, FaultBound, FaultSet, CandidateCount, EqualCandidates, InputCount, StrayInput, RotaHosts}
 use Rattle.setup.specs.declared.InputPlaces.{InputPlaces}
-use Rattle.setup.specs.Numbers.{numberOf}
 
 -- a council has 1 to 32 candidates
 abbrev pub isCandidateCount : ℕ → Bool
 isCandidateCount m = leb 1 m && leb m 32
-
--- the set names only hosts below n
-abbrev pub onlyBelow : ℕ → ℕ → Bool
-onlyBelow n hosts = allBelow 16 (λ j. ltb j n || not (has hosts j))
 
 -- at most t hosts, all below n
 abbrev pub isFaultSet : ℕ → ℕ → ℕ → Bool
@@ -32,16 +28,6 @@ isFaultSet n t faulty = onlyBelow n faulty && leb (count 16 (has faulty)) t
 -- each honest host below n has a place
 abbrev pub allPlaced : ℕ → ℕ → List (Option ℕ) → Bool
 allPlaced n faulty places = allBelow n (λ j. has faulty j || isSome (getD places j None))
-
--- what stands behind the first test that holds
-abbrev pub firstOf : {X : Type 0} → List (Bool × X) → Option X
-firstOf [] = None
-firstOf (row ∷ rows) = cond (row .0) (Some (row .1)) (firstOf rows)
-
--- x, unless there is a fault
-abbrev pub unless : {X F : Type 0} → Option F → X → Result X F
-unless None x = Ok x
-unless (Some f) x = Err f
 
 -- over a kind of candidate, by its equality
 module _ {C : Type 0} (equal : C → C → Bool) where
@@ -72,7 +58,7 @@ module _ {C : Type 0} (equal : C → C → Bool) where
   placesOf faulty cs xs = perHost (placeAt faulty cs xs)
 
   -- the first fault that applies to n hosts of which t may be faulty, the fault set, the candidates, the inputs and the rota
-  abbrev pub setupFault : ℕ → ℕ → ℕ → List C → List C → Schedule → Option SetupFault
+  abbrev pub setupFault : ℕ → ℕ → ℕ → List C → List C → Schedule → Option Refusal
   setupFault n t faulty cs xs rota =
       firstOf (
       (not (isHostCount n), HostCount)
@@ -91,5 +77,5 @@ module _ {C : Type 0} (equal : C → C → Bool) where
   setupNumber n t faulty cs xs rota = numberOf (setupFault n t faulty cs xs rota)
 
   -- the places of the honest inputs, unless there is a fault
-  abbrev pub judged : ℕ → ℕ → ℕ → List C → List C → Schedule → Result InputPlaces SetupFault
+  abbrev pub judged : ℕ → ℕ → ℕ → List C → List C → Schedule → Result InputPlaces Refusal
   judged n t faulty cs xs rota = unless (setupFault n t faulty cs xs rota) (record { places = placesOf faulty cs xs })

@@ -4,53 +4,16 @@ ghost use Prim.Native.Nat.{_<_, _≤_};
 ghost use lib.ListN.{length};
 ghost use Rattle.std.specs.Vec.{made};
 ghost use Rattle.std.specs.declared.option.Option.the-variants.{Some};
-ghost use Rattle.setup.specs.Numbers.{number, numberIn};
+ghost use Rattle.fault.specs.Refusals.{numberIn};
 ghost use Rattle.setup.specs.Placed.{Placed, Unseen};
-ghost use Rattle.setup.specs.Setup.{allPlaced, distinct, isCandidateCount, isFaultSet, judged, newAt, onlyBelow, placeAt, placeOf, placesOf, setupNumber};
+ghost use Rattle.setup.specs.Setup.{allPlaced, distinct, isCandidateCount, isFaultSet, judged, newAt, placeAt, placeOf, placesOf, setupNumber};
 use candidate::Candidate;
+use fault::Refusal;
 use rota::Rota;
 use sets::count_hosts;
 use sets::has_host;
+use sets::has_only_below;
 use sets::is_host_count;
-
-// Why no council can be made.
-#[derive(Clone, Copy)]
-pub enum SetupFault {
-    // the number of hosts is not 1 to 16
-    HostCount,
-    // fewer than 3t + 1 hosts
-    FaultBound,
-    // the fault set names a host that there is not, or more than t
-    FaultSet,
-    // the number of candidates is not 1 to 32
-    CandidateCount,
-    // two candidates are equal
-    EqualCandidates,
-    // not as many inputs as hosts
-    InputCount,
-    // an honest input equals no candidate
-    StrayInput,
-    // the rota is for another number of hosts
-    RotaHosts,
-}
-
-impl SetupFault {
-    // The setup number.
-    pub fn number(&self) -> u8
-        ensures { λ r. ⌜ r ≡ number (now (self .entry)) ⌝ }
-    {
-        match self {
-            SetupFault::HostCount => 1,
-            SetupFault::FaultBound => 2,
-            SetupFault::FaultSet => 3,
-            SetupFault::CandidateCount => 4,
-            SetupFault::EqualCandidates => 5,
-            SetupFault::InputCount => 6,
-            SetupFault::StrayInput => 7,
-            SetupFault::RotaHosts => 8,
-        }
-    }
-}
 
 // The place of each honest host's input among the candidates, and none for the others.
 #[derive(Clone, Copy)]
@@ -58,23 +21,11 @@ pub struct InputPlaces {
     pub places: [Option<u8>; 16],
 }
 
-// Whether the set names only hosts below n.
-fn are_below(n: u8, hosts: u16) -> bool
-    ensures { λ r. ⌜ r ≡ onlyBelow n hosts ⌝ }
-{
-    for host in 0..16 {
-        if host >= n && has_host(hosts, host) {
-            return false;
-        }
-    }
-    true
-}
-
 // Whether at most t hosts are faulty, all of them below n.
 fn is_fault_set(n: u8, t: u8, faulty: u16) -> bool
     ensures { λ r. ⌜ r ≡ isFaultSet n t faulty ⌝ }
 {
-    are_below(n, faulty) && count_hosts(faulty) <= u32::from(t)
+    has_only_below(faulty, n) && count_hosts(faulty) <= u32::from(t)
 }
 
 // Whether a council can have so many candidates.
@@ -170,35 +121,35 @@ pub fn judge<C: Candidate, R: Rota>(
     candidates: &[C],
     inputs: &[C],
     rota: &R,
-) -> Result<InputPlaces, SetupFault>
+) -> Result<InputPlaces, Refusal>
     ensures answer { λ r. ⌜ r ≡ judged (C·Candidate .equal) n t faulty (now (candidates .entry)) (now (inputs .entry)) (R·Rota .schedule (now (rota .entry))) ⌝ }
     ensures number { λ r. ⌜ numberIn r ≡ setupNumber (C·Candidate .equal) n t faulty (now (candidates .entry)) (now (inputs .entry)) (R·Rota .schedule (now (rota .entry))) ⌝ }
     ensures placed { λ r. ⌜ made r (λ p. Placed (C·Candidate .equal) n faulty (now (candidates .entry)) (now (inputs .entry)) (p .places)) ⌝ }
 {
     if !is_host_count(n) {
-        return Err(SetupFault::HostCount);
+        return Err(Refusal::HostCount);
     }
     if u16::from(n) < 3 * u16::from(t) + 1 {
-        return Err(SetupFault::FaultBound);
+        return Err(Refusal::FaultBound);
     }
     if !is_fault_set(n, t, faulty) {
-        return Err(SetupFault::FaultSet);
+        return Err(Refusal::FaultSet);
     }
     if !is_candidate_count(candidates.len()) {
-        return Err(SetupFault::CandidateCount);
+        return Err(Refusal::CandidateCount);
     }
     if !are_distinct(candidates) {
-        return Err(SetupFault::EqualCandidates);
+        return Err(Refusal::EqualCandidates);
     }
     if inputs.len() != usize::from(n) {
-        return Err(SetupFault::InputCount);
+        return Err(Refusal::InputCount);
     }
     let places = places_of(faulty, candidates, inputs);
     if !are_placed(n, faulty, &places) {
-        return Err(SetupFault::StrayInput);
+        return Err(Refusal::StrayInput);
     }
     if rota.host_count() != n {
-        return Err(SetupFault::RotaHosts);
+        return Err(Refusal::RotaHosts);
     }
     Ok(InputPlaces { places })
 }

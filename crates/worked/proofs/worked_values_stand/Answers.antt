@@ -1,8 +1,8 @@
 use mathlib.Core.Path.{refl}
-use Rattle.sets.specs.Sets.{has, count, allBelow, anyBelow, lowest, perHost}
+use Rattle.sets.specs.Sets.{has, sumBelow, allBelow, anyBelow, lowest, perHost}
 use Rattle.worked.proofs.worked_values_stand.Needs as need
 
 -- each by computing it
 pub returns : need.returns
-unfolding has count allBelow anyBelow lowest perHost
+unfolding has sumBelow allBelow anyBelow lowest perHost
 returns c = (refl, (refl, (refl, (refl, (refl, (refl, (refl, (refl, (refl, (refl, (refl, (refl, (refl, (refl, (refl, (refl, tt))))))))))))))))

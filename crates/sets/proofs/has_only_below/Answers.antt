@@ -3,9 +3,9 @@ use mathlib.Core.Bool.{not, _||_}
 use native.Mathlib.Omega.{arith}
 use lib.Dec.{ltb}
 use Rattle.std.proofs.shelf.Ways.{tells}
 use Rattle.sets.specs.Sets.{has}
 use Rattle.sets.proofs.Tests.{all-none, all-more, all-false}
-use Rattle.setup.proofs.are_below.Needs as need
+use Rattle.sets.proofs.has_only_below.Needs as need
 
 pub loop-host-holds : need.loop-host-holds
 loop-host-holds c = all-none _
