@@ -1,0 +1,4 @@
+pub mod Positions
+pub mod Sealings
+pub mod Counts
+pub mod Standing
