@@ -16,7 +16,7 @@ use Rattle.fault.specs.Refusals.{unless}
 use Rattle.fault.proofs.Accepted.{no-refusal}
 use Rattle.sets.specs.Sets.{has}
 use Rattle.keeper.specs.declared.position.Position.{Position}
-use Rattle.keeper.specs.Keeping.{Keeping, Map, isInside, sealFault, sealing, sealed, samePosition, withNumber, fits}
+use Rattle.keeper.specs.Keeping.{Keeping, Map, isInside, sealFault, sealing, sealed, samePosition, withNumber, fits, AllFit}
 use Rattle.keeper.proofs.Positions.{same-is, with-here, with-other}
 
 -- a number can be sealed there
@@ -90,7 +90,7 @@ sealed-at k at x p = ⊎-elim
     (cases-bool (isSome (sealFault k at)))
 
 -- a sealing leaves 32-bit numbers at positions inside
-pub sealed-fits : (k : Keeping) (at : Position) (x : ℕ) → x < 2 ^ 32 → ((p : Position) → fits k p (k .held p) ≡ true) → (p : Position) → fits (sealed k at x) p (sealed k at x .held p) ≡ true
+pub sealed-fits : (k : Keeping) (at : Position) (x : ℕ) → x < 2 ^ 32 → AllFit k → AllFit (sealed k at x)
 sealed-fits k at x small all p = ⊎-elim
     (λ same. ap (fits k p) same ∙ all p)
     (λ new. ap (fits k p) (new .now) ∙ and-from (isInside k p) _ (new .inside) (lt-ltb x (2 ^ 32) small))

@@ -20,6 +20,10 @@ use Rattle.keeper.specs.declared.position.Position.{Position}
 abbrev pub Map : Type 0
 Map = Position → Option ℕ
 
+-- no number anywhere
+abbrev pub nothing : Map
+nothing at = None
+
 -- a register of sealed (authenticated) numbers: how many hosts take part, which of them are open (faulty, so that any number passes for theirs), the number of phases, and what is held
 pub record Keeping : Type 0 where
   pub hosts : ℕ
@@ -89,7 +93,7 @@ heldCount k = sumBelow (k .hosts) (λ h. filledPhases k h List + filledPhases k 
 
 -- a keeper that holds nothing
 abbrev pub empty : ℕ → ℕ → ℕ → Keeping
-empty n opened horizon = record { hosts = n; opened = opened; horizon = horizon; held = λ _. None }
+empty n opened horizon = record { hosts = n; opened = opened; horizon = horizon; held = nothing }
 
 -- a new keeper with room for so many numbers, of which a phase takes two for each host; for no hosts, where n is not 1 to 16 or a host that there is not is open
 abbrev pub fresh : ℕ → ℕ → ℕ → Keeping
@@ -100,9 +104,13 @@ abbrev pub fits : Keeping → Position → Option ℕ → Bool
 fits k at None = true
 fits k at (Some x) = isInside k at && ltb x (2 ^ 32)
 
+-- the same at every position
+abbrev pub AllFit : Keeping → Type 0
+AllFit k = (at : Position) → fits k at (k .held at) ≡ true
+
 -- what every keeper keeps to: at most 16 hosts, none open but hosts, at most 2,048 phases, and only 32-bit numbers at positions inside
 pub record Sound (k : Keeping) : Type 0 where
   pub few : k .hosts ≤ 16
   pub below : onlyBelow (k .hosts) (k .opened) ≡ true
   pub short : k .horizon ≤ phases
-  pub inside : (at : Position) → fits k at (k .held at) ≡ true
+  pub inside : AllFit k

@@ -1,8 +1,7 @@
 // The tests that all keepers share.
 ghost use mathlib.Core.Path.{_≡_};
 ghost use Prim.Native.Nat.{_*_};
-ghost use Rattle.std.specs.declared.option.Option.the-variants.{None};
-ghost use Rattle.keeper.specs.Keeping.{fresh, isGenuine, sealing};
+ghost use Rattle.keeper.specs.Keeping.{fresh, isGenuine, isInside, nothing, sealing};
 ghost use Rattle.keeper.specs.Bounding.{kept};
 use crate::bounds::Bounds;
 use crate::position::Position;
@@ -15,7 +14,7 @@ use sets::is_host_count;
 impl Bounds {
     // The bounds of a new keeper with room for so many numbers: all 0 where n is no number of hosts, or a host that there is not is open.
     pub fn new(n: u8, opened: u16, room: usize) -> Bounds
-        ensures { λ r. ⌜ kept r (λ _. None) ≡ fresh n opened room ⌝ }
+        ensures { λ r. ⌜ kept r nothing ≡ fresh n opened room ⌝ }
     {
         if !is_host_count(n) || !has_only_below(opened, n) {
             return Bounds {
@@ -37,6 +36,13 @@ impl Bounds {
         ensures { λ r. ⌜ r ≡ 2 * now (self .entry) .hosts * now (self .entry) .horizon ⌝ }
     {
         2 * usize::from(self.hosts) * usize::from(self.horizon)
+    }
+
+    // Whether there is such a position.
+    pub fn is_inside(&self, at: Position) -> bool
+        ensures { λ r. ⌜ r ≡ isInside (kept (now (self .entry)) nothing) at ⌝ }
+    {
+        at.host < self.hosts && at.phase < self.horizon
     }
 
     // Whether a number may be sealed at a position where `held` stands.
@@ -62,8 +68,6 @@ impl Bounds {
     pub fn is_genuine(&self, at: Position, held: Option<u32>, number: u32) -> bool
         ensures { λ r. ⌜ r ≡ isGenuine (kept (now (self .entry)) (λ _. held)) at number ⌝ }
     {
-        at.host < self.hosts
-            && at.phase < self.horizon
-            && (has_host(self.opened, at.host) || held == Some(number))
+        self.is_inside(at) && (has_host(self.opened, at.host) || held == Some(number))
     }
 }
