@@ -2,6 +2,8 @@
 #[cfg(test)]
 mod candidates;
 #[cfg(test)]
+mod keepers;
+#[cfg(test)]
 mod rehearsals;
 #[cfg(test)]
 mod rotas;

@@ -8,6 +8,10 @@ use Rattle.candidate.specs.declared.term.Term.{Term}
 use Rattle.candidate.specs.declared.term.TimeUnit.{TimeUnit}
 use Rattle.candidate.specs.declared.term.TimeUnit.the-variants.{Days, Months, Years, UntilClose}
 use Rattle.candidate.specs.Equality.{equalTerms}
+use Rattle.fault.specs.Refusals.{numberIn}
+use Rattle.keeper.specs.declared.position.Sort.{Sort}
+use Rattle.keeper.specs.declared.position.Sort.the-variants as sorts
+use Rattle.keeper.specs.Keeping.{Keeping, fresh, sealing, sealed, isGenuine, heldCount}
 use Rattle.rota.specs.Cycles.{turnByTurn, byEntries}
 use Rattle.setup.specs.Setup.{setupNumber}
 
@@ -31,6 +35,18 @@ doubled = 0 ∷ 0 ∷ 1 ∷ 2 ∷ 3 ∷ []
 -- the setup number of four hosts, of which host 3 is faulty; two years and a day are the candidates; put in are 24 months, a day, a third term, and nine days by the faulty host
 abbrev pub council : ℕ → Term → ℕ
 council t third = setupNumber equalTerms 4 t 8 (term Years 2 ∷ term Days 1 ∷ []) (term Months 24 ∷ term Days 1 ∷ third ∷ term Days 9 ∷ []) (turnByTurn 4)
+
+-- a keeper of four hosts and 64 rows, host 3 being open, in which host 0 has sealed 5 as its list of phase 0
+abbrev pub begun : Keeping
+begun = sealed (fresh 4 8 64) (record { host = 0; sort = sorts.List; phase = 0 }) 5
+
+-- what it answers to a sealing
+abbrev pub answer : ℕ → Sort → ℕ → ℕ
+answer h s p = numberIn (sealing begun (record { host = h; sort = s; phase = p }))
+
+-- whether it calls a number genuine, as 1 or 0
+abbrev pub passes : ℕ → Sort → ℕ → ℕ → ℕ
+passes h s p x = bit (isGenuine begun (record { host = h; sort = s; phase = p }) x)
 
 -- what a definition gives, and what was worked out
 abbrev pub values : List (ℕ × ℕ)
@@ -59,6 +75,25 @@ values =
     ∷ (council 1 (term Years 3), 7)
     ∷ (council 2 (term Years 2), 2)
     ∷ (council 0 (term Years 2), 3)
+    -- a phase of four hosts takes eight rows, and no keeper has more than 2,048 phases
+    ∷ (fresh 4 8 64 .horizon, 8)
+    ∷ (fresh 4 8 63 .horizon, 7)
+    ∷ (fresh 1 0 5000 .horizon, 2048)
+    -- there are no 17 hosts, and of four hosts none is host 4
+    ∷ (fresh 17 0 64 .hosts, 0)
+    ∷ (fresh 4 16 64 .hosts, 0)
+    -- the host is tested first, then the phase, then whether the host is open, then whether the position is filled
+    ∷ (answer 4 sorts.List 8, 11)
+    ∷ (answer 3 sorts.List 8, 12)
+    ∷ (answer 3 sorts.List 7, 13)
+    ∷ (answer 0 sorts.List 0, 14)
+    ∷ (answer 0 sorts.Nomination 0, 0)
+    -- the number that was sealed is genuine and no other, and every number is that of the open host, in the phases that there are
+    ∷ (passes 0 sorts.List 0 5, 1)
+    ∷ (passes 0 sorts.List 0 6, 0)
+    ∷ (passes 3 sorts.List 7 6, 1)
+    ∷ (passes 3 sorts.List 8 6, 0)
+    ∷ (heldCount begun, 1)
     ∷ []
 
 -- each definition gives what was worked out
