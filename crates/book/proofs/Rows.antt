@@ -1,6 +1,6 @@
 -- What one more row does to what rows hold.
 use mathlib.Core.Path.{_≡_, refl, sym, ap, _∙_, fun-ext}
-use mathlib.Core.Bool.{true, false, cond}
+use mathlib.Core.Bool.{false, cond}
 use mathlib.Core.List.{List, [], _∷_, _++_}
 use mathlib.Core.Logic.{⊎-elim}
 use Prim.Native.Nat.{ℕ}
@@ -11,7 +11,7 @@ use Rattle.std.proofs.shelf.Tests.{cases-bool, cond-true, cond-false}
 use Rattle.keeper.specs.declared.bounds.Bounds.{Bounds}
 use Rattle.keeper.specs.declared.position.Position.{Position}
 use Rattle.keeper.specs.Bounding.{kept}
-use Rattle.keeper.specs.Keeping.{Map, samePosition, withNumber, sealing, sealed}
+use Rattle.keeper.specs.Keeping.{samePosition, withNumber, sealing, sealed}
 use Rattle.keeper.proofs.Positions.{same-is}
 use Rattle.keeper.proofs.Sealings.{free, sealed-held, no-number}
 use Rattle.book.specs.declared.row.Row.{Row}

@@ -1,15 +1,15 @@
 -- Each position has a cell of its own, and what filling one does to what the cells hold.
 use mathlib.Core.Path.{_≡_, refl, sym, ap, _∙_, fun-ext}
-use mathlib.Core.Bool.{Bool, true, false, cond, _&&_}
+use mathlib.Core.Bool.{true, false}
 use mathlib.Core.List.{List}
 use mathlib.Core.Logic.{_≢_, ⊎-elim}
 use Prim.Native.Nat.{ℕ, _+_, _*_, _/_, _%_, _≤_, _<_}
 use native.Mathlib.Omega.{arith}
 use lib.Arith.{digits-lt, digits-div, digits-mod}
 use lib.Dec.{ltb}
-use lib.ListN.{length, getD, set, replicate}
+use lib.ListN.{length, set, replicate}
 use lib.Seq.{getD-set-same, getD-set-other}
-use Rattle.std.proofs.shelf.Lists.{getD-replicate, length-replicate}
+use Rattle.std.proofs.shelf.Lists.{getD-replicate}
 use Rattle.std.proofs.shelf.Tests.{cases-bool, cond-true, cond-false, ltb-true, and-parts, true≢false}
 use Rattle.std.specs.declared.option.Option.{Option}
 use Rattle.std.specs.declared.option.Option.the-variants.{Some, None}
@@ -19,7 +19,7 @@ use Rattle.keeper.specs.declared.position.Sort.{Sort}
 use Rattle.keeper.specs.declared.position.Sort.the-variants.{List as Listed, Nomination}
 use Rattle.keeper.specs.declared.position.Position.{Position}
 use Rattle.keeper.specs.Bounding.{kept}
-use Rattle.keeper.specs.Keeping.{Map, isInside, nothing, samePosition, withNumber, sealing, sealed}
+use Rattle.keeper.specs.Keeping.{isInside, nothing, samePosition, withNumber, sealing, sealed}
 use Rattle.keeper.proofs.Positions.{same-is, same-itself}
 use Rattle.keeper.proofs.Sealings.{free, free-inside, sealed-held}
 use Rattle.grid.specs.Cells.{sortIndex, cellOf, inCells}

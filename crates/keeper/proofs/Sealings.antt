@@ -1,10 +1,10 @@
 -- What an accepted sealing says of its position, and what it leaves.
-use mathlib.Core.Path.{_≡_, refl, sym, ap, subst, _∙_}
-use mathlib.Core.Bool.{Bool, true, false, cond, _&&_}
+use mathlib.Core.Path.{_≡_, refl, sym, ap, _∙_}
+use mathlib.Core.Bool.{true, false}
 use mathlib.Core.Logic.{_⊎_, inl, inr, ⊎-elim}
-use Prim.Native.Nat.{ℕ, _≤_, _<_, _^_}
+use Prim.Native.Nat.{ℕ, _<_, _^_}
 use native.Mathlib.Omega.{arith}
-use lib.Dec.{ltb, leb}
+use lib.Dec.{ltb}
 use Rattle.std.specs.Options.{isSome}
 use Rattle.std.specs.declared.option.Option.{Option}
 use Rattle.std.specs.declared.option.Option.the-variants.{Some, None}
@@ -17,7 +17,7 @@ use Rattle.fault.proofs.Accepted.{no-refusal}
 use Rattle.sets.specs.Sets.{has}
 use Rattle.keeper.specs.declared.position.Position.{Position}
 use Rattle.keeper.specs.Keeping.{Keeping, Map, isInside, sealFault, sealing, sealed, samePosition, withNumber, fits, AllFit}
-use Rattle.keeper.proofs.Positions.{same-is, with-here, with-other}
+use Rattle.keeper.proofs.Positions.{same-is, with-other}
 
 -- a number can be sealed there
 pub record Free (k : Keeping) (at : Position) : Type 0 where

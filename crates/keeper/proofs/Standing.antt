@@ -1,29 +1,27 @@
 -- What is sealed stands, and nothing is forged.
 use mathlib.Core.Path.{_≡_, refl, sym, ap, subst, _∙_}
-use mathlib.Core.Bool.{Bool, true, false, cond, _&&_, _||_}
-use mathlib.Core.List.{List, [], _∷_}
+use mathlib.Core.Bool.{true, false}
+use mathlib.Core.List.{[], _∷_}
 use mathlib.Core.Logic.{_⊎_, inl, inr, ⊎-elim}
 use Prim.Native.Nat.{ℕ, suc}
 use native.Mathlib.Omega.{arith}
-use lib.Dec.{eqb, ltb}
 use Rattle.std.specs.Finite.{nth}
-use Rattle.std.specs.Options.{isSome}
 use Rattle.std.specs.Vec.{made}
 use Rattle.std.specs.declared.option.Option.{Option}
 use Rattle.std.specs.declared.option.Option.the-variants.{Some, None}
 use Rattle.std.specs.declared.result.Result.{Result}
 use Rattle.std.specs.declared.result.Result.the-variants.{Ok, Err}
-use Rattle.std.proofs.shelf.Tests.{cases-bool, cond-true, cond-false, and-parts, and-from, or-cases, or-left, or-right, eqb-true, eq-eqb, lt-ltb, true≢false, false≢true}
+use Rattle.std.proofs.shelf.Tests.{and-parts, and-from, or-cases, or-left, or-right, eqb-true, eq-eqb, true≢false, false≢true}
 use Rattle.fault.specs.declared.Refusal.{Refusal}
 use Rattle.sets.specs.Sets.{has}
 use Rattle.keeper.specs.declared.position.Position.{Position}
-use Rattle.keeper.specs.Keeping.{Keeping, Map, isInside, holds, isGenuine, sealFault, sealing, sealed, samePosition, withNumber}
+use Rattle.keeper.specs.Keeping.{Keeping, Map, holding, isInside, holds, isGenuine, sealing, sealed, empty}
 use Rattle.keeper.specs.Seals.{Sealings, sealedAll, ForGood, Unforged}
-use Rattle.keeper.proofs.Positions.{same-is, with-here, with-other}
-use Rattle.keeper.proofs.Sealings.{New, sealed-at, no-number, some-one, free, free-inside, sealed-held}
+use Rattle.keeper.proofs.Positions.{with-here}
+use Rattle.keeper.proofs.Sealings.{sealed-at, no-number, some-one, free, free-inside, sealed-held}
 
 -- hosts, open hosts and horizon stay
-bounds-stay : (k : Keeping) (later : Sealings) → sealedAll k later ≡ record { hosts = k .hosts; opened = k .opened; horizon = k .horizon; held = sealedAll k later .held }
+bounds-stay : (k : Keeping) (later : Sealings) → sealedAll k later ≡ holding k (sealedAll k later .held)
 bounds-stay k [] = refl
 bounds-stay k (s ∷ ss) = bounds-stay (sealed k (s .0) (s .1)) ss
 
@@ -59,7 +57,7 @@ genuine-held k at x shut e = ⊎-elim (λ o. absurd (true≢false (sym o ∙ shu
 pub genuine-for-good : (k : Keeping) (at : Position) (x : ℕ) → isGenuine k at x ≡ true → ForGood k at x
 genuine-for-good k at x e =
     let is = genuine-is k at x e in
-    let after : Sealings → Keeping = λ later. record { hosts = k .hosts; opened = k .opened; horizon = k .horizon; held = sealedAll k later .held } in
+    let after : Sealings → Keeping = λ later. holding k (sealedAll k later .held) in
     let now : (later : Sealings) (y : ℕ) → isGenuine (sealedAll k later) at y ≡ isGenuine (after later) at y = λ later y. ap (λ (l : Keeping). isGenuine l at y) (bounds-stay k later) in
     record {
       genuine = λ later. now later x ∙ is-genuine (after later) at x (is .0) (⊎-elim inl (λ h. inr (held-stays k later at x h)) (is .1));
@@ -90,10 +88,17 @@ sealed-own k s at x shut e =
     inr (λ j. (new .here j, same j)))
     (sealed-at k (s .0) (s .1) at)
 
--- nothing is forged
-pub unforged : Unforged
-unforged k [] at x shut e = inl e
-unforged k (s ∷ ss) at x shut e = ⊎-elim
+-- a genuine number was so before, or is one of the sealed ones
+genuine-since : (k : Keeping) (done : Sealings) (at : Position) (x : ℕ) → has (k .opened) (at .host) ≡ false → isGenuine (sealedAll k done) at x ≡ true → (isGenuine k at x ≡ true) ⊎ ((i : ℕ) × (nth done i ≡ Some (at, x)))
+genuine-since k [] at x shut e = inl e
+genuine-since k (s ∷ ss) at x shut e = ⊎-elim
     (λ before. ⊎-elim inl (λ own. inr (0, ap Some own)) (sealed-own k s at x shut before))
     (λ later. inr (suc (later .0), later .1))
-    (unforged (sealed k (s .0) (s .1)) ss at x shut e)
+    (genuine-since (sealed k (s .0) (s .1)) ss at x shut e)
+
+-- nothing is forged
+pub unforged : Unforged
+unforged n opened horizon done at x shut e = ⊎-elim
+    (λ before. absurd (no-number x (genuine-held (empty n opened horizon) at x shut before)))
+    (λ sealed. sealed)
+    (genuine-since (empty n opened horizon) done at x shut e)

@@ -16,6 +16,10 @@ use Rattle.keeper.specs.declared.position.Sort.{Sort}
 use Rattle.keeper.specs.declared.position.Sort.the-variants.{List, Nomination}
 use Rattle.keeper.specs.declared.position.Position.{Position}
 
+-- the position of a host, a sort and a phase
+abbrev pub position : ℕ → Sort → ℕ → Position
+position h s p = record { host = h; sort = s; phase = p }
+
 -- at most one number at each position
 abbrev pub Map : Type 0
 Map = Position → Option ℕ
@@ -40,7 +44,7 @@ abbrev pub holds : Option ℕ → ℕ → Bool
 holds None x = false
 holds (Some y) x = eqb y x
 
--- a number is genuine where its host sealed it, and any number is that of an open host
+-- at a position inside, a number is genuine where it is held, and every number of an open host is
 abbrev pub isGenuine : Keeping → Position → ℕ → Bool
 isGenuine k at x = isInside k at && (has (k .opened) (at .host) || holds (k .held at) x)
 
@@ -74,18 +78,17 @@ samePosition a b = eqb (a .host) (b .host) && (sameSort (a .sort) (b .sort) && e
 abbrev pub withNumber : Map → Position → ℕ → Map
 withNumber m at x p = cond (samePosition at p) (Some x) (m p)
 
+-- the keeper with another map
+abbrev pub holding : Keeping → Map → Keeping
+holding k m = record { hosts = k .hosts; opened = k .opened; horizon = k .horizon; held = m }
+
 -- the keeper after a sealing: it holds one number more, or what it held where the sealing is refused
 abbrev pub sealed : Keeping → Position → ℕ → Keeping
-sealed k at x = record {
-  hosts = k .hosts;
-  opened = k .opened;
-  horizon = k .horizon;
-  held = cond (isSome (sealFault k at)) (k .held) (withNumber (k .held) at x);
-}
+sealed k at x = holding k (cond (isSome (sealFault k at)) (k .held) (withNumber (k .held) at x))
 
 -- how many phases of a host have a number of a sort
 abbrev pub filledPhases : Keeping → ℕ → Sort → ℕ
-filledPhases k h s = count (k .horizon) (λ p. isSome (k .held (record { host = h; sort = s; phase = p })))
+filledPhases k h s = count (k .horizon) (λ p. isSome (k .held (position h s p)))
 
 -- how many positions are filled
 unfoldable pub heldCount : Keeping → ℕ

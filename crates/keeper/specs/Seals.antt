@@ -1,35 +1,44 @@
--- What holds of every keeper over any line of sealings: what is sealed stands, and nothing is forged.
+-- What holds of every keeper over any line of sealings: what is sealed stands, nothing is forged, and all is counted.
 use mathlib.Core.Path.{_≡_}
 use mathlib.Core.Bool.{true, false, cond}
 use mathlib.Core.List.{List, [], _∷_}
-use mathlib.Core.Logic.{_⊎_}
-use Prim.Native.Nat.{ℕ}
+use Prim.Native.Nat.{ℕ, _+_}
 use Rattle.std.specs.Finite.{nth}
+use Rattle.std.specs.Options.{isSome}
 use Rattle.std.specs.declared.option.Option.the-variants.{Some}
 use Rattle.std.specs.declared.result.Result.{Result}
 use Rattle.std.specs.declared.result.Result.the-variants.{Ok}
 use Rattle.fault.specs.declared.Refusal.{Refusal}
 use Rattle.sets.specs.Sets.{has}
 use Rattle.keeper.specs.declared.position.Position.{Position}
-use Rattle.keeper.specs.Keeping.{Keeping, isGenuine, sealing, sealed}
+use Rattle.keeper.specs.Keeping.{Keeping, isGenuine, sealFault, sealing, sealed, heldCount, empty}
 
 -- numbers to be sealed one after another, each with its position
 abbrev pub Sealings : Type 0
 Sealings = List (Position × ℕ)
 
--- the keeper after them, whether accepted or refused
+-- the keeper after them, be they accepted or refused
 abbrev pub sealedAll : Keeping → Sealings → Keeping
 sealedAll k [] = k
 sealedAll k (s ∷ ss) = sealedAll (sealed k (s .0) (s .1)) ss
 
--- whatever is sealed later, the number is genuine at its position, and no other is that of a host that is not open
+-- whatever is sealed later, the number is genuine at its position, and it is the only one unless the host is open
 pub record ForGood (k : Keeping) (at : Position) (x : ℕ) : Type 0 where
   pub genuine : (later : Sealings) → isGenuine (sealedAll k later) at x ≡ true
   pub only : (later : Sealings) (y : ℕ) → has (k .opened) (at .host) ≡ false → isGenuine (sealedAll k later) at y ≡ true → y ≡ x
 
--- a number that is genuine of a host that is not open was so before, or is one of the sealed ones
+-- in a keeper that began empty, a genuine number of a host that is not open is one of those sealed
 abbrev pub Unforged : Type 0
-Unforged = (k : Keeping) (done : Sealings) (at : Position) (x : ℕ) → has (k .opened) (at .host) ≡ false → isGenuine (sealedAll k done) at x ≡ true → (isGenuine k at x ≡ true) ⊎ ((i : ℕ) × (nth done i ≡ Some (at, x)))
+Unforged = (n opened horizon : ℕ) (done : Sealings) (at : Position) (x : ℕ) → has opened (at .host) ≡ false → isGenuine (sealedAll (empty n opened horizon) done) at x ≡ true → (i : ℕ) × (nth done i ≡ Some (at, x))
+
+-- how many sealings are accepted
+abbrev pub acceptedIn : Keeping → Sealings → ℕ
+acceptedIn k [] = 0
+acceptedIn k (s ∷ ss) = cond (isSome (sealFault k (s .0))) 0 1 + acceptedIn (sealed k (s .0) (s .1)) ss
+
+-- a keeper that began empty holds as many numbers as sealings were accepted
+abbrev pub Counted : Type 0
+Counted = (n opened horizon : ℕ) (done : Sealings) → heldCount (sealedAll (empty n opened horizon) done) ≡ acceptedIn (empty n opened horizon) done
 
 -- what attesting a number answers: one that is genuine already needs no sealing
 abbrev pub attesting : Keeping → Position → ℕ → Result (Unit {0}) Refusal

@@ -2,7 +2,7 @@
 ghost use mathlib.Core.Path.{_≡_};
 ghost use mathlib.Core.Bool.{true};
 ghost use Prim.Native.Nat.{_≤_};
-ghost use Rattle.sets.specs.Sets.{onlyBelow};
+ghost use Rattle.sets.specs.Sets.{onlyBelow, phases};
 
 mod checks;
 
@@ -14,5 +14,5 @@ pub struct Bounds {
     pub horizon: u16,
     ghost few: { hosts ≤ 16 },
     ghost below: { onlyBelow hosts opened ≡ true },
-    ghost short: { horizon ≤ 2048 },
+    ghost short: { horizon ≤ phases },
 }

@@ -2,7 +2,7 @@
 ghost use mathlib.Core.Path.{_≡_};
 ghost use Rattle.std.specs.Vec.{made};
 ghost use Rattle.keeper.specs.Keeping.{Keeping, Sound, heldCount, isGenuine, sealed, sealing};
-ghost use Rattle.keeper.specs.Seals.{ForGood, Unforged, attested, attesting};
+ghost use Rattle.keeper.specs.Seals.{Counted, ForGood, Unforged, attested, attesting};
 use fault::Refusal;
 use position::Position;
 
@@ -53,7 +53,12 @@ pub fn attest<K: Keeper>(keeper: &mut K, at: Position, number: u32) -> Result<()
     keeper.seal(at, number)
 }
 
-// A theorem, of what every keeper means: only what its host sealed is genuine, unless the host is open.
+// A theorem of what keepers mean: only what its host sealed is genuine, unless the host is open.
 pub fn nothing_is_forged()
     ensures { λ _. ⌜ Unforged ⌝ }
+{}
+
+// A theorem of what keepers mean: as many numbers are held as sealings were accepted.
+pub fn every_sealing_is_counted()
+    ensures { λ _. ⌜ Counted ⌝ }
 {}

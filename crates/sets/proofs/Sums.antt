@@ -33,12 +33,3 @@ pub sum-none : (n : ℕ) (f : ℕ → ℕ) → ((i : ℕ) → f i ≡ 0) → sum
 unfolding sumBelow
 sum-none zero f h = refl
 sum-none (suc n) f h = omega (arith, sum-none n f h, h n)
-
--- each term of a sum that is 0 is 0
-pub sum-zero : (n : ℕ) (f : ℕ → ℕ) → sumBelow n f ≡ 0 → (i : ℕ) → i < n → f i ≡ 0
-unfolding sumBelow
-sum-zero zero f e i l = absurd (omega arith)
-sum-zero (suc n) f e i l = ⊎-elim
-    (λ a. omega (arith, ap f a))
-    (λ a. sum-zero n f (omega arith) i (omega arith))
-    (cases-eq n i)

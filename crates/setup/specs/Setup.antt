@@ -9,7 +9,6 @@ use Rattle.std.specs.Options.{isSome}
 use Rattle.std.specs.declared.option.Option.{Option}
 use Rattle.std.specs.declared.option.Option.the-variants.{Some, None}
 use Rattle.std.specs.declared.result.Result.{Result}
-use Rattle.std.specs.declared.result.Result.the-variants.{Ok, Err}
 use Rattle.sets.specs.Sets.{has, onlyBelow, count, allBelow, lowest, perHost, isHostCount}
 use Rattle.rota.specs.Schedule.{Schedule}
 use Rattle.fault.specs.Refusals.{numberOf, firstOf, unless}

@@ -11,7 +11,7 @@ use Rattle.candidate.specs.Equality.{equalTerms}
 use Rattle.fault.specs.Refusals.{numberIn}
 use Rattle.keeper.specs.declared.position.Sort.{Sort}
 use Rattle.keeper.specs.declared.position.Sort.the-variants as sorts
-use Rattle.keeper.specs.Keeping.{Keeping, fresh, sealing, sealed, isGenuine, heldCount}
+use Rattle.keeper.specs.Keeping.{Keeping, position, fresh, sealing, sealed, isGenuine, heldCount}
 use Rattle.rota.specs.Cycles.{turnByTurn, byEntries}
 use Rattle.setup.specs.Setup.{setupNumber}
 
@@ -38,15 +38,15 @@ council t third = setupNumber equalTerms 4 t 8 (term Years 2 ∷ term Days 1 ∷
 
 -- a keeper of four hosts and 64 rows, host 3 being open, in which host 0 has sealed 5 as its list of phase 0
 abbrev pub begun : Keeping
-begun = sealed (fresh 4 8 64) (record { host = 0; sort = sorts.List; phase = 0 }) 5
+begun = sealed (fresh 4 8 64) (position 0 sorts.List 0) 5
 
 -- what it answers to a sealing
 abbrev pub answer : ℕ → Sort → ℕ → ℕ
-answer h s p = numberIn (sealing begun (record { host = h; sort = s; phase = p }))
+answer h s p = numberIn (sealing begun (position h s p))
 
 -- whether it calls a number genuine, as 1 or 0
 abbrev pub passes : ℕ → Sort → ℕ → ℕ → ℕ
-passes h s p x = bit (isGenuine begun (record { host = h; sort = s; phase = p }) x)
+passes h s p x = bit (isGenuine begun (position h s p) x)
 
 -- what a definition gives, and what was worked out
 abbrev pub values : List (ℕ × ℕ)

@@ -1,5 +1,4 @@
 use borrow.Author.Needs.{needs}
-use mathlib.Core.Path.{sym}
 use Rattle.keeper.proofs.Standing.{genuine-for-good, sealing-for-good}
 use Rattle.keeper.proofs.attest.Needs as need
 
