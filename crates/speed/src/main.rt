@@ -11,51 +11,38 @@ use std::io;
 use std::time::Duration;
 use std::time::Instant;
 
-// A host has a position of each sort in every phase.
-const SORTS: [Sort; 2] = [Sort::List, Sort::Nomination];
+// The positions of sixteen hosts in the order in which a council fills them: phase by phase, host by host.
+fn nth_position(i: u32) -> Position {
+    let sort = if i % 2 == 0 {
+        Sort::List
+    } else {
+        Sort::Nomination
+    };
+    Position {
+        host: (i / 2 % 16) as u8,
+        sort,
+        phase: (i / 32 % 2048) as u16,
+    }
+}
 
-// Seals the numbers of one phase, and answers how many were accepted.
-fn seal_phase<K: Keeper>(keeper: &mut K, phase: u16) -> u32 {
+// Seals i at the i-th position, and answers how many were accepted.
+fn fill<K: Keeper>(keeper: &mut K, positions: u32) -> u32 {
     let mut sealed = 0u32;
-    for host in 0..keeper.host_count() {
-        for sort in SORTS {
-            let at = Position { host, sort, phase };
-            if keeper.seal(at, u32::from(phase)).is_ok() {
-                sealed = sealed.saturating_add(1);
-            }
+    for i in 0..positions {
+        if keeper.seal(nth_position(i), i).is_ok() {
+            sealed = sealed.saturating_add(1);
         }
     }
     sealed
 }
 
-// Asks about the numbers of one phase, and answers how many are genuine.
-fn ask_phase<K: Keeper>(keeper: &K, phase: u16) -> u32 {
+// Asks whether i is genuine at the i-th position, and answers how many are.
+fn ask<K: Keeper>(keeper: &K, positions: u32) -> u32 {
     let mut genuine = 0u32;
-    for host in 0..keeper.host_count() {
-        for sort in SORTS {
-            let at = Position { host, sort, phase };
-            if keeper.is_genuine(at, u32::from(phase)) {
-                genuine = genuine.saturating_add(1);
-            }
+    for i in 0..positions {
+        if keeper.is_genuine(nth_position(i), i) {
+            genuine = genuine.saturating_add(1);
         }
-    }
-    genuine
-}
-
-// Fills every position in the order in which a council does.
-fn fill<K: Keeper>(keeper: &mut K) -> u32 {
-    let mut sealed = 0u32;
-    for phase in 0..keeper.horizon() {
-        sealed = sealed.saturating_add(seal_phase(keeper, phase));
-    }
-    sealed
-}
-
-// Asks about every position.
-fn ask<K: Keeper>(keeper: &K) -> u32 {
-    let mut genuine = 0u32;
-    for phase in 0..keeper.horizon() {
-        genuine = genuine.saturating_add(ask_phase(keeper, phase));
     }
     genuine
 }
@@ -65,13 +52,19 @@ fn each(time: Duration, count: u32) -> u128 {
     time.as_nanos().saturating_mul(1000) / u128::from(count.max(1))
 }
 
-// Fills a keeper, asks, and prints.
-fn measure<K: Keeper>(rt: &LibcRuntime, name: &str, keeper: &mut K, timed: bool) -> io::Result<()> {
+// Fills so many positions of a keeper, asks about them, and prints.
+fn measure<K: Keeper>(
+    rt: &LibcRuntime,
+    name: &str,
+    keeper: &mut K,
+    positions: u32,
+    timed: bool,
+) -> io::Result<()> {
     let start = Instant::now(rt)?;
-    let sealed = fill(keeper);
+    let sealed = fill(keeper, positions);
     let filling = start.elapsed(rt)?;
     let start = Instant::now(rt)?;
-    let genuine = ask(keeper);
+    let genuine = ask(keeper, positions);
     let asking = start.elapsed(rt)?;
     println!(rt, "{name}: {sealed} sealed, {genuine} genuine")?;
     if timed {
@@ -82,12 +75,12 @@ fn measure<K: Keeper>(rt: &LibcRuntime, name: &str, keeper: &mut K, timed: bool)
     Ok(())
 }
 
-// Measures both keepers with so many rows or cells.
-fn measure_both(rt: &LibcRuntime, room: usize, timed: bool) -> io::Result<()> {
-    let mut book = Book::new(rt.alloc(), 16, 0, room)?;
-    measure(rt, "book", &mut book, timed)?;
-    let mut grid = Grid::new(rt.alloc(), 16, 0, room)?;
-    measure(rt, "grid", &mut grid, timed)
+// Measures both keepers with so many positions.
+fn measure_both(rt: &LibcRuntime, positions: u32, timed: bool) -> io::Result<()> {
+    let mut book = Book::new(rt.alloc(), 16, 0, positions as usize)?;
+    measure(rt, "book", &mut book, positions, timed)?;
+    let mut grid = Grid::new(rt.alloc(), 16, 0, positions as usize)?;
+    measure(rt, "grid", &mut grid, positions, timed)
 }
 
 fn main(rt: LibcRuntime) -> io::Result<()> {

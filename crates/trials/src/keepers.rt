@@ -10,9 +10,6 @@ use keeper::position::Position;
 use keeper::position::Sort;
 use std::test::*;
 
-// The two sorts.
-const SORTS: [Sort; 2] = [Sort::List, Sort::Nomination];
-
 // The position of a host, one of the two sorts, and a phase.
 fn position(host: u8, nomination: bool, phase: u16) -> Position {
     let sort = if nomination {
@@ -21,6 +18,12 @@ fn position(host: u8, nomination: bool, phase: u16) -> Position {
         Sort::List
     };
     Position { host, sort, phase }
+}
+
+// The positions one after another, host by host, with so many phases to each.
+fn nth_position(i: u16, phases: u16) -> Position {
+    let phases = phases.max(1);
+    position((i / 2 / phases & 0xff) as u8, i % 2 == 1, i / 2 % phases)
 }
 
 // The number of a refusal, or 0.
@@ -45,7 +48,15 @@ fn states<K: Keeper>(
     check_eq(keeper.held_count(), held)
 }
 
-// Two keepers of the same hosts, open hosts and phases hold as many numbers, and call the same ones genuine at every position, inside and just outside.
+// Two keepers call the same numbers genuine at a position.
+fn agree_at<A: Keeper, B: Keeper>(a: &A, b: &B, at: Position, numbers: &[u32]) -> Result<(), Fail> {
+    for x in numbers {
+        check_eq(a.is_genuine(at, *x), b.is_genuine(at, *x))?;
+    }
+    Ok(())
+}
+
+// Two keepers have the same hosts, open hosts and phases, hold as many numbers, and agree at every position of the hosts 0 to 5 and the phases 0 to 9.
 fn agree<A: Keeper, B: Keeper>(a: &A, b: &B, numbers: &[u32]) -> Result<(), Fail> {
     states(
         a,
@@ -54,15 +65,8 @@ fn agree<A: Keeper, B: Keeper>(a: &A, b: &B, numbers: &[u32]) -> Result<(), Fail
         b.horizon(),
         b.held_count(),
     )?;
-    for host in 0..6 {
-        for sort in SORTS {
-            for phase in 0..10 {
-                let at = Position { host, sort, phase };
-                for x in numbers {
-                    check_eq(a.is_genuine(at, *x), b.is_genuine(at, *x))?;
-                }
-            }
-        }
+    for i in 0..120u16 {
+        agree_at(a, b, nth_position(i, 10), numbers)?;
     }
     Ok(())
 }
@@ -101,11 +105,11 @@ fn made_for_so_many_phases(rt: LibcRuntime) -> Result<(), Fail> {
         let mut grid = Grid::new(rt.alloc(), n, given, room)?;
         states(&book, hosts, opened, horizon, 0)?;
         states(&grid, hosts, opened, horizon, 0)?;
-        // one without hosts or phases takes no number
-        let first = position(0, false, horizon);
+        // no number is sealed at the horizon, and none at all without hosts
+        let past = position(0, false, horizon);
         let refused = if hosts == 0 { 11 } else { 12 };
-        check_eq(number(book.seal(first, 1)), refused)?;
-        check_eq(number(grid.seal(first, 1)), refused)?;
+        check_eq(number(book.seal(past, 1)), refused)?;
+        check_eq(number(grid.seal(past, 1)), refused)?;
     }
     Ok(())
 }
@@ -205,28 +209,27 @@ fn genuine_is_what_was_sealed(rt: LibcRuntime) -> Result<(), Fail> {
     asks(&mut Grid::new(rt.alloc(), 4, 8, 64)?)
 }
 
-// Fills every position of a keeper of 3 hosts and 5 phases; after that each sealing is refused.
-fn fills<K: Keeper>(keeper: &mut K) -> Result<(), Fail> {
-    for again in [false, true] {
-        for host in 0..4 {
-            for sort in SORTS {
-                for phase in 0..6 {
-                    let answer = number(keeper.seal(Position { host, sort, phase }, 7));
-                    let inside = if again { 14 } else { 0 };
-                    let expected = if host == 3 {
-                        11
-                    } else if phase == 5 {
-                        12
-                    } else {
-                        inside
-                    };
-                    check_eq(answer, expected)?;
-                }
-            }
-        }
-        states(keeper, 3, 0, 5, 30)?;
+// Seals at every position of a keeper of 3 hosts and 5 phases, and of one host and one phase more. What is answered inside is given.
+fn seals_all<K: Keeper>(keeper: &mut K, inside: u8) -> Result<(), Fail> {
+    for i in 0..48u16 {
+        let at = nth_position(i, 6);
+        let expected = if at.host == 3 {
+            11
+        } else if at.phase == 5 {
+            12
+        } else {
+            inside
+        };
+        check_eq(number(keeper.seal(at, 7)), expected)?;
     }
-    Ok(())
+    states(keeper, 3, 0, 5, 30)
+}
+
+// Every position is filled once, and then each sealing is refused.
+fn fills<K: Keeper>(keeper: &mut K) -> Result<(), Fail> {
+    states(keeper, 3, 0, 5, 0)?;
+    seals_all(keeper, 0)?;
+    seals_all(keeper, 14)
 }
 
 #[test]
