@@ -18,7 +18,7 @@ use Rattle.keeper.specs.declared.bounds.Bounds.{Bounds}
 use Rattle.keeper.specs.declared.position.Sort.{Sort}
 use Rattle.keeper.specs.declared.position.Sort.the-variants.{List as Listed, Nomination}
 use Rattle.keeper.specs.declared.position.Position.{Position}
-use Rattle.keeper.specs.Bounding.{kept}
+use Rattle.keeper.specs.Bounding.{kept, positions}
 use Rattle.keeper.specs.Keeping.{isInside, nothing, samePosition, withNumber, sealing, sealed}
 use Rattle.keeper.proofs.Positions.{same-is, same-itself}
 use Rattle.keeper.proofs.Sealings.{free, free-inside, sealed-held}
@@ -43,7 +43,7 @@ inside-is b at e =
     (ltb-true (at .host) (b .hosts) (a .0), ltb-true (at .phase) (b .horizon) (a .1))
 
 -- a position inside has a cell
-pub cell-below : (b : Bounds) (at : Position) → isInside (kept b nothing) at ≡ true → cellOf (b .horizon) at < 2 * b .hosts * b .horizon
+pub cell-below : (b : Bounds) (at : Position) → isInside (kept b nothing) at ≡ true → cellOf (b .horizon) at < positions b
 cell-below b at i =
     let a = inside-is b at i in
     let row : at .host * 2 + sortIndex (at .sort) < 2 * b .hosts = omega (arith, a .0, sort-below (at .sort)) in
@@ -61,7 +61,7 @@ cell-one top at p la lp e =
     λ i. record { host = host i; sort = sort i; phase = phase i }
 
 -- filling the cell of a position gives the position its number
-cells-set : (b : Bounds) (cells : List (Option ℕ)) (at : Position) (x : ℕ) → 2 * b .hosts * b .horizon ≤ length cells → isInside (kept b nothing) at ≡ true → (p : Position) → inCells b (set cells (cellOf (b .horizon) at) (Some x)) p ≡ withNumber (inCells b cells) at x p
+cells-set : (b : Bounds) (cells : List (Option ℕ)) (at : Position) (x : ℕ) → positions b ≤ length cells → isInside (kept b nothing) at ≡ true → (p : Position) → inCells b (set cells (cellOf (b .horizon) at) (Some x)) p ≡ withNumber (inCells b cells) at x p
 cells-set b cells at x long i p = ⊎-elim
     (λ own.
     let q = same-is at p own in
@@ -76,13 +76,13 @@ cells-set b cells at x long i p = ⊎-elim
     (cases-bool (samePosition at p))
 
 -- the keeper with the cell filled is the keeper after the sealing
-pub sealed-cells : (b : Bounds) (cells : List (Option ℕ)) (at : Position) (x : ℕ) → 2 * b .hosts * b .horizon ≤ length cells → Ok tt ≡ sealing (kept b (inCells b cells)) at → kept b (inCells b (set cells (cellOf (b .horizon) at) (Some x))) ≡ sealed (kept b (inCells b cells)) at x
+pub sealed-cells : (b : Bounds) (cells : List (Option ℕ)) (at : Position) (x : ℕ) → positions b ≤ length cells → Ok tt ≡ sealing (kept b (inCells b cells)) at → kept b (inCells b (set cells (cellOf (b .horizon) at) (Some x))) ≡ sealed (kept b (inCells b cells)) at x
 sealed-cells b cells at x long ok =
     let k = kept b (inCells b cells) in
     ap (kept b) (fun-ext (cells-set b cells at x long (free-inside k at (free k at ok))) ∙ sym (sealed-held k at x ok))
 
 -- cells that hold nothing
-pub cells-none : (b : Bounds) (n : ℕ) → 2 * b .hosts * b .horizon ≤ n → inCells b (replicate n None) ≡ nothing
+pub cells-none : (b : Bounds) (n : ℕ) → positions b ≤ n → inCells b (replicate n None) ≡ nothing
 cells-none b n long = fun-ext (λ p. ⊎-elim
     (λ i. cond-true (isInside (kept b nothing) p) _ None i ∙ getD-replicate n (cellOf (b .horizon) p) None None (omega (arith, cell-below b p i)))
     (λ out. cond-false (isInside (kept b nothing) p) _ None out)

@@ -1,8 +1,7 @@
 // The grid: a keeper with one cell for each position.
 ghost use mathlib.Core.Path.{_≡_};
-ghost use Prim.Native.Nat.{_*_};
 ghost use Rattle.std.specs.Of.Vec.{vec-items, vec-len};
-ghost use Rattle.keeper.specs.Bounding.{kept};
+ghost use Rattle.keeper.specs.Bounding.{kept, positions};
 ghost use Rattle.keeper.specs.Keeping.{AllFit, heldCount};
 ghost use Rattle.grid.specs.Cells.{inCells};
 use keeper::bounds::Bounds;
@@ -18,6 +17,6 @@ pub struct Grid {
     cells: Vec<Option<u32>>,
     filled: usize,
     ghost inside: { AllFit (kept bounds (inCells bounds (vec-items cells))) },
-    ghost sized: { vec-len cells ≡ 2 * bounds .hosts * bounds .horizon },
+    ghost sized: { vec-len cells ≡ positions bounds },
     ghost counted: { filled ≡ heldCount (kept bounds (inCells bounds (vec-items cells))) },
 }

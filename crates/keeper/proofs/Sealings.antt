@@ -68,6 +68,7 @@ free-inside k at f = and-from (ltb (at .host) (k .hosts)) _ (lt-ltb (at .host) (
 
 -- a sealing that put its number at a position
 pub record New (k : Keeping) (at : Position) (x : ℕ) (p : Position) : Type 0 where
+  pub ok : Ok tt ≡ sealing k at
   pub here : at ≡ p
   pub inside : isInside k p ≡ true
   pub none : k .held p ≡ None
@@ -84,7 +85,7 @@ sealed-at k at x p = ⊎-elim
     ⊎-elim
     (λ e.
     let q = same-is at p e in
-    inr (record { here = q; inside = sym (ap (isInside k) q) ∙ free-inside k at f; none = sym (ap (k .held) q) ∙ f .none; now = new ∙ cond-true (samePosition at p) (Some x) _ e }))
+    inr (record { ok = ok; here = q; inside = sym (ap (isInside k) q) ∙ free-inside k at f; none = sym (ap (k .held) q) ∙ f .none; now = new ∙ cond-true (samePosition at p) (Some x) _ e }))
     (λ e. inl (new ∙ with-other (k .held) at x p e))
     (cases-bool (samePosition at p)))
     (cases-bool (isSome (sealFault k at)))

@@ -1,11 +1,10 @@
--- What is sealed stands, and nothing is forged.
+-- What is sealed stands, and nothing else is genuine.
 use mathlib.Core.Path.{_≡_, refl, sym, ap, subst, _∙_}
 use mathlib.Core.Bool.{true, false}
-use mathlib.Core.List.{[], _∷_}
+use mathlib.Core.List.{[], _∷_, _++_}
 use mathlib.Core.Logic.{_⊎_, inl, inr, ⊎-elim}
-use Prim.Native.Nat.{ℕ, suc}
+use Prim.Native.Nat.{ℕ}
 use native.Mathlib.Omega.{arith}
-use Rattle.std.specs.Finite.{nth}
 use Rattle.std.specs.Vec.{made}
 use Rattle.std.specs.declared.option.Option.{Option}
 use Rattle.std.specs.declared.option.Option.the-variants.{Some, None}
@@ -16,7 +15,7 @@ use Rattle.fault.specs.declared.Refusal.{Refusal}
 use Rattle.sets.specs.Sets.{has}
 use Rattle.keeper.specs.declared.position.Position.{Position}
 use Rattle.keeper.specs.Keeping.{Keeping, Map, holding, isInside, holds, isGenuine, sealing, sealed, empty}
-use Rattle.keeper.specs.Seals.{Sealings, sealedAll, ForGood, Unforged}
+use Rattle.keeper.specs.Seals.{Sealings, sealedAll, ForGood, SealedIn, Authentic}
 use Rattle.keeper.proofs.Positions.{with-here}
 use Rattle.keeper.proofs.Sealings.{sealed-at, no-number, some-one, free, free-inside, sealed-held}
 
@@ -77,7 +76,7 @@ sealing-for-good k l at x (Err f) e is = tt
 sealing-for-good k l at x (Ok u) e is = subst (λ (m : Keeping). ForGood m at x) (sym is) (genuine-for-good (sealed k at x) at x (sealed-genuine k at x e))
 
 -- a number that a sealing makes genuine is its own
-sealed-own : (k : Keeping) (s : Position × ℕ) (at : Position) (x : ℕ) → has (k .opened) (at .host) ≡ false → isGenuine (sealed k (s .0) (s .1)) at x ≡ true → (isGenuine k at x ≡ true) ⊎ (s ≡ (at, x))
+sealed-own : (k : Keeping) (s : Position × ℕ) (at : Position) (x : ℕ) → has (k .opened) (at .host) ≡ false → isGenuine (sealed k (s .0) (s .1)) at x ≡ true → (isGenuine k at x ≡ true) ⊎ ((s ≡ (at, x)) × (sealing k at ≡ Ok tt))
 sealed-own k s at x shut e =
     let i = genuine-is (sealed k (s .0) (s .1)) at x e .0 in
     let is = genuine-held (sealed k (s .0) (s .1)) at x shut e in
@@ -85,20 +84,36 @@ sealed-own k s at x shut e =
     (λ same. inl (is-genuine k at x i (inr (sym same ∙ is))))
     (λ new.
     let same = some-one (s .1) x (sym (new .now) ∙ is) in
-    inr (λ j. (new .here j, same j)))
+    inr (λ j. (new .here j, same j), sym (ap (sealing k) (new .here)) ∙ sym (new .ok)))
     (sealed-at k (s .0) (s .1) at)
 
--- a genuine number was so before, or is one of the sealed ones
-genuine-since : (k : Keeping) (done : Sealings) (at : Position) (x : ℕ) → has (k .opened) (at .host) ≡ false → isGenuine (sealedAll k done) at x ≡ true → (isGenuine k at x ≡ true) ⊎ ((i : ℕ) × (nth done i ≡ Some (at, x)))
+-- a genuine number was so before, or was sealed since
+genuine-since : (k : Keeping) (done : Sealings) (at : Position) (x : ℕ) → has (k .opened) (at .host) ≡ false → isGenuine (sealedAll k done) at x ≡ true → (isGenuine k at x ≡ true) ⊎ SealedIn k done at x
 genuine-since k [] at x shut e = inl e
 genuine-since k (s ∷ ss) at x shut e = ⊎-elim
-    (λ before. ⊎-elim inl (λ own. inr (0, ap Some own)) (sealed-own k s at x shut before))
-    (λ later. inr (suc (later .0), later .1))
+    (λ then. ⊎-elim
+    inl
+    (λ own. inr (record { before = []; later = ss; split = ap (λ (t : Position × ℕ). t ∷ ss) (own .0); ok = own .1 }))
+    (sealed-own k s at x shut then))
+    (λ in-ss. inr (record { before = s ∷ in-ss .before; later = in-ss .later; split = ap (λ (ts : Sealings). s ∷ ts) (in-ss .split); ok = in-ss .ok }))
     (genuine-since (sealed k (s .0) (s .1)) ss at x shut e)
 
--- nothing is forged
-pub unforged : Unforged
-unforged n opened horizon done at x shut e = ⊎-elim
-    (λ before. absurd (no-number x (genuine-held (empty n opened horizon) at x shut before)))
-    (λ sealed. sealed)
-    (genuine-since (empty n opened horizon) done at x shut e)
+-- sealings in two parts
+sealed-parts : (k : Keeping) (before later : Sealings) → sealedAll k (before ++ later) ≡ sealedAll (sealedAll k before) later
+sealed-parts k [] later = refl
+sealed-parts k (s ∷ ss) later = sealed-parts (sealed k (s .0) (s .1)) ss later
+
+-- a number that was sealed is genuine
+sealed-in-genuine : (k : Keeping) (done : Sealings) (at : Position) (x : ℕ) → SealedIn k done at x → isGenuine (sealedAll k done) at x ≡ true
+sealed-in-genuine k done at x s =
+    let then = sealedAll k (s .before) in
+    ap (λ (l : Keeping). isGenuine l at x) (ap (sealedAll k) (s .split) ∙ sealed-parts k (s .before) ((at, x) ∷ s .later))
+    ∙ genuine-for-good (sealed then at x) at x (sealed-genuine then at x (sym (s .ok))) .genuine (s .later)
+
+-- exactly the sealed numbers are genuine
+pub authentic : Authentic
+authentic n opened horizon done at x shut =
+    let k = empty n opened horizon in (
+      λ e. ⊎-elim (λ then. absurd (no-number x (genuine-held k at x shut then))) (λ s. s) (genuine-since k done at x shut e),
+      sealed-in-genuine k done at x,
+    )

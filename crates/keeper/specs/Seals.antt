@@ -1,11 +1,10 @@
--- What holds of every keeper over any line of sealings: what is sealed stands, nothing is forged, and all is counted.
+-- What holds of every keeper over any line of sealings: what is sealed stands, nothing else is genuine, and all is counted.
 use mathlib.Core.Path.{_≡_}
 use mathlib.Core.Bool.{true, false, cond}
-use mathlib.Core.List.{List, [], _∷_}
+use mathlib.Core.List.{List, [], _∷_, _++_}
 use Prim.Native.Nat.{ℕ, _+_}
-use Rattle.std.specs.Finite.{nth}
 use Rattle.std.specs.Options.{isSome}
-use Rattle.std.specs.declared.option.Option.the-variants.{Some}
+use Rattle.std.specs.Orderings.{Decides}
 use Rattle.std.specs.declared.result.Result.{Result}
 use Rattle.std.specs.declared.result.Result.the-variants.{Ok}
 use Rattle.fault.specs.declared.Refusal.{Refusal}
@@ -27,9 +26,16 @@ pub record ForGood (k : Keeping) (at : Position) (x : ℕ) : Type 0 where
   pub genuine : (later : Sealings) → isGenuine (sealedAll k later) at x ≡ true
   pub only : (later : Sealings) (y : ℕ) → has (k .opened) (at .host) ≡ false → isGenuine (sealedAll k later) at y ≡ true → y ≡ x
 
--- in a keeper that began empty, a genuine number of a host that is not open is one of those sealed
-abbrev pub Unforged : Type 0
-Unforged = (n opened horizon : ℕ) (done : Sealings) (at : Position) (x : ℕ) → has opened (at .host) ≡ false → isGenuine (sealedAll (empty n opened horizon) done) at x ≡ true → (i : ℕ) × (nth done i ≡ Some (at, x))
+-- the number was among the sealings, and was accepted
+pub record SealedIn (k : Keeping) (done : Sealings) (at : Position) (x : ℕ) : Type 0 where
+  pub before : Sealings
+  pub later : Sealings
+  pub split : done ≡ before ++ (at, x) ∷ later
+  pub ok : sealing (sealedAll k before) at ≡ Ok tt
+
+-- in a keeper that began empty, exactly the sealed numbers of a host that is not open are genuine
+abbrev pub Authentic : Type 0
+Authentic = (n opened horizon : ℕ) (done : Sealings) (at : Position) (x : ℕ) → has opened (at .host) ≡ false → Decides (isGenuine (sealedAll (empty n opened horizon) done) at x) (SealedIn (empty n opened horizon) done at x)
 
 -- how many sealings are accepted
 abbrev pub acceptedIn : Keeping → Sealings → ℕ

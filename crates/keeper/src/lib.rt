@@ -2,7 +2,7 @@
 ghost use mathlib.Core.Path.{_≡_};
 ghost use Rattle.std.specs.Vec.{made};
 ghost use Rattle.keeper.specs.Keeping.{Keeping, Sound, heldCount, isGenuine, sealed, sealing};
-ghost use Rattle.keeper.specs.Seals.{Counted, ForGood, Unforged, attested, attesting};
+ghost use Rattle.keeper.specs.Seals.{Authentic, Counted, ForGood, attested, attesting};
 use fault::Refusal;
 use position::Position;
 
@@ -53,9 +53,9 @@ pub fn attest<K: Keeper>(keeper: &mut K, at: Position, number: u32) -> Result<()
     keeper.seal(at, number)
 }
 
-// A theorem of what keepers mean: only what its host sealed is genuine, unless the host is open.
-pub fn nothing_is_forged()
-    ensures { λ _. ⌜ Unforged ⌝ }
+// A theorem of what keepers mean: exactly the numbers that a host sealed are genuine, unless the host is open.
+pub fn genuine_is_what_was_sealed()
+    ensures { λ _. ⌜ Authentic ⌝ }
 {}
 
 // A theorem of what keepers mean: as many numbers are held as sealings were accepted.

@@ -1,8 +1,7 @@
 // The tests that all keepers share.
 ghost use mathlib.Core.Path.{_≡_};
-ghost use Prim.Native.Nat.{_*_};
 ghost use Rattle.keeper.specs.Keeping.{fresh, isGenuine, isInside, nothing, sealing};
-ghost use Rattle.keeper.specs.Bounding.{kept};
+ghost use Rattle.keeper.specs.Bounding.{kept, positions};
 use crate::bounds::Bounds;
 use crate::position::Position;
 use fault::Refusal;
@@ -33,7 +32,7 @@ impl Bounds {
 
     // How many positions there are: two sorts for each host and phase.
     pub fn position_count(&self) -> usize
-        ensures { λ r. ⌜ r ≡ 2 * now (self .entry) .hosts * now (self .entry) .horizon ⌝ }
+        ensures { λ r. ⌜ r ≡ positions (now (self .entry)) ⌝ }
     {
         2 * usize::from(self.hosts) * usize::from(self.horizon)
     }
