@@ -14,7 +14,7 @@ use std::alloc::AllocError;
 use std::alloc::Global;
 
 impl Book {
-    // An empty book for n hosts, some of them open, of so many rows. Only rows that can be filled are given memory.
+    // An empty book for n hosts, some of them open, of so many rows. Memory is asked for only as many as can be filled.
     pub fn new(heap: Global, n: u8, opened: u16, rows: usize) -> Result<Book, AllocError>
         ensures { λ r. ⌜ made r (λ b. keepingOf b ≡ fresh n opened rows) ⌝ }
     {

@@ -25,7 +25,7 @@ fn cell_of(horizon: u16, at: Position) -> usize
 }
 
 impl Grid {
-    // An empty grid for n hosts, some of them open, of so many cells. Only cells that can be filled are given memory.
+    // An empty grid for n hosts, some of them open, of so many cells. Memory is asked for only as many as can be filled.
     pub fn new(heap: Global, n: u8, opened: u16, cells: usize) -> Result<Grid, AllocError>
         ensures { λ r. ⌜ made r (λ g. keepingOf g ≡ fresh n opened cells) ⌝ }
     {
