@@ -11,6 +11,7 @@ use Rattle.std.specs.declared.option.Option.{Option}
 use Rattle.std.specs.declared.option.Option.the-variants.{Some, None}
 use Rattle.std.specs.declared.result.Result.the-variants.{Ok}
 use Rattle.std.proofs.shelf.Tests.{cases-bool, cond-true, cond-false}
+use Rattle.fault.proofs.Accepted.{accepted}
 use Rattle.sets.specs.Sets.{sumBelow}
 use Rattle.sets.proofs.Sums.{sum-cong, sum-more, sum-le, sum-none}
 use Rattle.keeper.specs.declared.position.Sort.{Sort}
@@ -19,7 +20,7 @@ use Rattle.keeper.specs.declared.position.Position.{Position}
 use Rattle.keeper.specs.Keeping.{Keeping, Map, position, holding, sealFault, sealing, sealed, withNumber, sameSort, heldCount, empty}
 use Rattle.keeper.specs.Seals.{Sealings, sealedAll, acceptedIn, Counted}
 use Rattle.keeper.proofs.Positions.{same-not, with-here, with-other}
-use Rattle.keeper.proofs.Sealings.{free, accepted, sealed-held}
+use Rattle.keeper.proofs.Sealings.{free, sealed-held}
 
 -- 1 for one number
 abbrev one : Option ℕ → ℕ
@@ -113,7 +114,7 @@ sealed-not k at x refused = ap (holding k) (cond-true (isSome (sealFault k at)) 
 count-sealed : (k : Keeping) (at : Position) (x : ℕ) → heldCount (sealed k at x) ≡ heldCount k + cond (isSome (sealFault k at)) 0 1
 count-sealed k at x = ⊎-elim
     (λ refused. omega (arith, ap heldCount (sealed-not k at x refused), cond-true {A = ℕ} (isSome (sealFault k at)) 0 1 refused))
-    (λ yes. omega (arith, count-more k at x (accepted k at yes), cond-false {A = ℕ} (isSome (sealFault k at)) 0 1 yes))
+    (λ yes. omega (arith, count-more k at x (accepted tt (sealFault k at) yes), cond-false {A = ℕ} (isSome (sealFault k at)) 0 1 yes))
     (cases-bool (isSome (sealFault k at)))
 
 -- and so do sealings one after another

@@ -11,9 +11,7 @@ use Rattle.std.specs.declared.option.Option.the-variants.{Some, None}
 use Rattle.std.specs.declared.result.Result.the-variants.{Ok}
 use Rattle.std.proofs.shelf.Tests.{cases-bool, cond-true, cond-false, and-from, lt-ltb}
 use Rattle.std.proofs.shelf.Ways.{tells}
-use Rattle.fault.specs.declared.Refusal.{Refusal}
-use Rattle.fault.specs.Refusals.{unless}
-use Rattle.fault.proofs.Accepted.{no-refusal}
+use Rattle.fault.proofs.Accepted.{no-refusal, accepted}
 use Rattle.sets.specs.Sets.{has}
 use Rattle.keeper.specs.declared.position.Position.{Position}
 use Rattle.keeper.specs.Keeping.{Keeping, Map, isInside, sealFault, sealing, sealed, samePosition, withNumber, fits, AllFit}
@@ -41,14 +39,6 @@ free k at e =
       shut = grind (arith, tells);
       none = is-none (k .held at) (grind (arith, tells));
     }
-
--- one without a refusal is accepted
-pub accepted : (k : Keeping) (at : Position) → isSome (sealFault k at) ≡ false → Ok tt ≡ sealing k at
-accepted k at e = by (sealFault k at) e
-  where
-    by : (o : Option Refusal) → isSome o ≡ false → Ok tt ≡ unless o (tt {0})
-    by None e = refl
-    by (Some r) e = absurd (grind arith)
 
 -- it holds one number more
 pub sealed-held : (k : Keeping) (at : Position) (x : ℕ) → Ok tt ≡ sealing k at → sealed k at x .held ≡ withNumber (k .held) at x
@@ -79,7 +69,7 @@ pub sealed-at : (k : Keeping) (at : Position) (x : ℕ) (p : Position) → (seal
 sealed-at k at x p = ⊎-elim
     (λ no. inl (ap (λ (m : Map). m p) (cond-true (isSome (sealFault k at)) (k .held) _ no)))
     (λ yes.
-    let ok = accepted k at yes in
+    let ok = accepted tt (sealFault k at) yes in
     let f = free k at ok in
     let new = ap (λ (m : Map). m p) (sealed-held k at x ok) in
     ⊎-elim
