@@ -1,4 +1,6 @@
 // Bodies of letters: lists, warrants and acknowledgements, behind one reader.
+#![tactic(auto)]
+
 ghost use Rattle.std.specs.Prelude.{◌≡◌, ◌≤◌, length, IfOk};
 ghost use Rattle.parts.specs.Reading.{Reading, giving};
 ghost use Rattle.body.specs.declared.kinds.Body.{Body};

@@ -1,4 +1,6 @@
 // The book: a keeper with its numbers as rows, in the order in which they were sealed.
+#![tactic(auto)]
+
 ghost use Rattle.std.specs.Prelude.{◌≡◌, ◌≤◌, vec_len, vec_capacity};
 ghost use Rattle.keeper.specs.Keeping.{AllFit, held_count};
 ghost use Rattle.keeper.specs.Bounding.{kept, positions};

@@ -1,4 +1,6 @@
 // Candidates (the values that can be agreed on). A kind of candidate brings an equality that keeps three laws.
+#![tactic(auto)]
+
 ghost use Rattle.std.specs.Prelude.{◌≡◌, ℕ, Bool, true, List};
 ghost use Rattle.std.specs.Fmt.{WritesOnOk};
 

@@ -1,4 +1,6 @@
 // Entries of a bag: a head, and for a forged letter what it says.
+#![tactic(auto)]
+
 ghost use Rattle.std.specs.Prelude.{◌≡◌, ◌≤◌, length, IfOk, Some};
 ghost use Rattle.fault.specs.Refusals.{first_of};
 ghost use Rattle.parts.specs.Reading.{giving};

@@ -1,4 +1,6 @@
 // Why a call is refused: every refusal of the system, with its number, and where in a call it was found.
+#![tactic(auto)]
+
 ghost use Rattle.std.specs.Prelude.{◌≡◌};
 ghost use Rattle.fault.specs.Refusals.{layer_number, number};
 

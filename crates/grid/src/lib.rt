@@ -1,4 +1,6 @@
 // The grid: a keeper with one cell for each position.
+#![tactic(auto)]
+
 ghost use Rattle.std.specs.Prelude.{◌≡◌, vec_len};
 ghost use Rattle.keeper.specs.Bounding.{kept, positions};
 ghost use Rattle.keeper.specs.Keeping.{AllFit, held_count};

@@ -1,4 +1,6 @@
 // Keepers of seals (the authentication of the council): what was sealed, by which host, once and for good.
+#![tactic(auto)]
+
 ghost use Rattle.std.specs.Prelude.{◌≡◌, OnOk};
 ghost use Rattle.keeper.specs.Keeping.{Keeping, Sound, held_count, is_genuine, sealed, sealing};
 ghost use Rattle.keeper.specs.Seals.{Authentic, Counted, ForGood, attested, attesting};

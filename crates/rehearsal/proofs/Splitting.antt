@@ -4,7 +4,7 @@ use Rattle.std.proofs.lemmas.List.{take_rest}
 use Rattle.std.proofs.lemmas.Bool.{cases_lt, le-ltb, lt-ltb}
 use Rattle.std.proofs.lemmas.Bool.Decides.{nat_tests}
 use Rattle.rehearsal.specs.declared.bags.BagCount.{BagCount}
-use Rattle.parts.specs.Numbers.{word}
+use Rattle.rehearsal.specs.Reading.{word}
 use Rattle.rehearsal.specs.Bags.{Bags, with_bag, first_bags, bags_of, counted}
 
 -- any number of bags that suffices will do

@@ -1,14 +1,25 @@
 -- What the bytes of a rehearsal's setup say. Numbers have their most significant bit first.
-use Rattle.std.specs.Prelude.{ℕ, ◌+◌, ◌*◌, ◌/◌, ◌%◌, cond, List, map, length, Some, None, Option, ◌==◌, nat_lt}
+use Rattle.std.specs.Prelude.{ℕ, ◌+◌, ◌*◌, ◌/◌, ◌%◌, cond, List, map, length, Some, None, Option, ◌==◌, nat_lt, slice_index}
 use Rattle.std.specs.List.{range_with_len}
 use Rattle.candidate.specs.declared.snapshot.Snapshot.{Snapshot}
 use Rattle.candidate.specs.declared.term.Term.{Term}
 use Rattle.candidate.specs.declared.term.TimeUnit.{TimeUnit}
 use Rattle.candidate.specs.declared.term.TimeUnit.TheVariants.{Days, Months, Years, UntilClose}
-use Rattle.parts.specs.Numbers.{byte, word, long_word}
 use Rattle.rehearsal.specs.declared.read.Head.{Head}
 use Rattle.rehearsal.specs.declared.read.Kind.{Kind}
 use Rattle.rehearsal.specs.declared.read.Kind.TheVariants.{Snapshots, Terms}
+
+-- the byte at a place; past the end, where nothing is read, 0
+abbrev pub byte : List ℕ → ℕ → ℕ
+byte bs at = slice_index bs at
+
+-- the number in two bytes
+abbrev pub word : List ℕ → ℕ → ℕ
+word bs at = byte bs at * 256 + byte bs (at + 1)
+
+-- the number in four bytes
+abbrev pub long_word : List ℕ → ℕ → ℕ
+long_word bs at = byte bs at * 16777216 + byte bs (at + 1) * 65536 + byte bs (at + 2) * 256 + byte bs (at + 3)
 
 -- the sort, in two bits; 2 and 3 are no kind of candidate
 abbrev pub kind_of : ℕ → Option Kind

@@ -1,4 +1,6 @@
 // A rehearsal (a recorded run): a council's setup and its bags, from the bytes that were given to the text that is printed.
+#![tactic(auto)]
+
 ghost use Rattle.std.specs.Prelude.{◌≡◌, ℕ, List, [], ◌∷◌, ◌++◌, IfOk, string_bytes, OnOk};
 ghost use Rattle.rehearsal.specs.Bags.{bags_of, counted};
 ghost use Rattle.rehearsal.specs.Cuts.{CutShort, short_text};

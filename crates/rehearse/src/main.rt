@@ -1,4 +1,6 @@
 // Reads a rehearsal from the standard input, and prints what it comes to.
+#![tactic(auto)]
+
 use rehearsal::rehearse;
 use std::io;
 use std::io::Read;

@@ -1,4 +1,6 @@
 // Rotas (leader schedules): which host owns (leads) which phase (view).
+#![tactic(auto)]
+
 ghost use Rattle.std.specs.Prelude.{◌≡◌, ◌≤◌};
 ghost use Rattle.rota.specs.Schedule.{Schedule, Sound};
 ghost use Rattle.rota.specs.Cycles.{turn_by_turn};

@@ -1,4 +1,6 @@
 // Sets of hosts (the processes that are to agree) as 16-bit masks, in which host j weighs 2^j, and of candidates as 32-bit masks, in which place c weighs 2^c.
+#![tactic(auto)]
+
 ghost use Rattle.std.specs.Prelude.{◌≡◌};
 ghost use Rattle.sets.specs.Sets.{count, has, is_host_count, is_mask_of, only_below};
 

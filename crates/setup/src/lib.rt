@@ -1,4 +1,6 @@
 // Whether a council (an instance of the consensus) can be made of what is given, and where each honest input stands among the candidates.
+#![tactic(auto)]
+
 ghost use Rattle.std.specs.Prelude.{◌≡◌, ◌<◌, ◌≤◌, length, IfOk, Some};
 ghost use Rattle.fault.specs.Refusals.{number_in};
 ghost use Rattle.setup.specs.Placed.{Placed, Unseen};

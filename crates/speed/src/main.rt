@@ -1,4 +1,6 @@
 // How long sealing and asking take on a book and on a grid of sixteen hosts. With a word as argument it prints times and measures large keepers too.
+#![tactic(auto)]
+
 use book::Book;
 use grid::Grid;
 use keeper::Keeper;

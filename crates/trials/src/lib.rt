@@ -1,4 +1,6 @@
 // Tests of what stands below. The library itself is empty.
+#![tactic(auto)]
+
 #[cfg(test)]
 mod candidates;
 #[cfg(test)]

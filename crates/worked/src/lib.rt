@@ -1,4 +1,6 @@
 // The definitions at work on small examples.
+#![tactic(auto)]
+
 ghost use Rattle.worked.specs.Values.{WorkedValues};
 
 // A theorem: every definition comes to the value that was worked out by hand.
