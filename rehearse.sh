@@ -4,14 +4,16 @@
 set -eu
 top=$(cd "$(dirname "$0")" && pwd)
 file=${1:-$top/examples/worked}
-program=$top/target/bin/rehearse
-if [ ! -x "$program" ] || [ -n "$(find "$top/crates" "$top/crates.txt" -newer "$program" -print | head -n 1)" ]; then
-    mkdir -p "$top/target"
-    log=$top/target/rehearse.log
-    if ! (cd "$top" && rt check rehearse) >"$log" 2>&1; then
+program=$top/crates/rehearse/out/rehearse
+newer() { find "$top/crates" "$top/crates.txt" -name out -prune -o -newer "$program" -print | head -n 1; }
+if [ ! -x "$program" ] || [ -n "$(newer)" ]; then
+    log=$(mktemp)
+    trap 'rm -f "$log"' EXIT
+    if ! (cd "$top/crates/rehearse" && rt run </dev/null) >"$log" 2>&1; then
         cat "$log" >&2
         exit 1
     fi
     touch "$program"
+    rm -f "$log"
 fi
 exec "$program" <"$file"
