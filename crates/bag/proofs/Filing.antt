@@ -1,22 +1,19 @@
 -- An entry that was read and filed is read again as the same.
-use Rattle.std.proofs.Common.{◌≡◌, ℕ, ◌+◌, ◌*◌, ◌/◌, ◌%◌, ◌^◌, ◌<◌, ◌≤◌, min, Bool, true, false, cond, ◌&&◌, eqb, ltb, ◌≢◌, ◌⊎◌, List, [], ◌∷◌, length, get_or, drop, set, replicate, Some, None, Ok, Option, Result, sym, refl, ap, ◌∙◌, inl, inr, ⊎_elim, arith}
+use Rattle.std.proofs.Common.{◌≡◌, ℕ, ◌+◌, ◌/◌, ◌%◌, ◌<◌, ◌≤◌, min, true, false, cond, ◌≢◌, List, [], length, get_or, drop, replicate, Some, None, Ok, Option, Result, sym, refl, ap, ◌∙◌, ⊎_elim, arith}
 use mathlib.Core.Path.{fun_ext}
 use Rattle.std.proofs.lemmas.List.{get_or-set_same, get_or-set_other, get_or-replicate, get_or_past}
-use Rattle.std.proofs.lemmas.Bool.{cases_Bool, cases_eq, cases_lt, lt-ltb, true≢false}
+use Rattle.std.proofs.lemmas.Bool.{cases_Bool, cases_lt, lt-ltb, true≢false}
 use Rattle.std.proofs.lemmas.Bool.Decides.{nat_tests}
-use Rattle.std.proofs.lemmas.Nat.{mod_below}
 use Rattle.std.specs.Result.{result_ok}
-use Rattle.fault.specs.declared.Layer.TheVariants as layers
 use Rattle.fault.specs.declared.Fault.{Fault}
 use Rattle.parts.specs.declared.span.Part.{Part}
 use Rattle.parts.specs.Numbers.{word}
-use Rattle.parts.specs.Reading.{Reading, Tests, then, sized, part, giving}
+use Rattle.parts.specs.Reading.{Reading, Tests, then}
 use Rattle.entry.proofs.Headed.{headed_read, headed_is}
 use Rattle.body.specs.declared.kinds.Limits.{Limits}
 use Rattle.body.specs.declared.kinds.Body.{Body}
-use Rattle.entry.specs.declared.letter.Entry.{Entry}
 use Rattle.entry.specs.declared.letter.Head.{Head}
-use Rattle.entry.specs.Entries.{Met, met, fields, content, headed}
+use Rattle.entry.specs.Entries.{Met, headed}
 use Rattle.bag.specs.Bags.{no_mail, same_pair, with_entry}
 use Rattle.bag.specs.Checked.{said, entry_at, mail_at}
 use Rattle.bag.specs.Offsets.{is_pair, cell_of, offset_of, filed}

@@ -4,7 +4,7 @@ use Rattle.std.proofs.lemmas.List.{drop-drop}
 use Rattle.fault.specs.declared.Fault.{Fault}
 use Rattle.sets.specs.Sets.{has}
 use Rattle.parts.specs.declared.span.Part.{Part}
-use Rattle.parts.specs.Reading.{then, sized, grown, and_then}
+use Rattle.parts.specs.Reading.{sized, grown, and_then}
 use Rattle.parts.proofs.Settled.{grown-grown}
 use Rattle.body.specs.declared.kinds.Limits.{Limits}
 use Rattle.body.specs.declared.kinds.Warrant.{Warrant}

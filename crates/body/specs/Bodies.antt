@@ -1,5 +1,5 @@
 -- The layout of bodies. Fields have their most significant bit first.
-use Rattle.std.specs.Prelude.{ℕ, zero, suc, ◌+◌, ◌/◌, ◌%◌, cond, not, [], ◌∷◌, set, replicate, ◌==◌, nat_le, slice_set}
+use Rattle.std.specs.Prelude.{ℕ, zero, suc, ◌+◌, ◌/◌, ◌%◌, cond, not, [], ◌∷◌, replicate, ◌==◌, nat_le, slice_set}
 use Rattle.fault.specs.declared.Refusal.TheVariants.{NotZero, UnknownPlace, UnknownSigner}
 use Rattle.fault.specs.declared.Layer.{Layer}
 use Rattle.fault.specs.declared.Layer.TheVariants as layers

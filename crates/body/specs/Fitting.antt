@@ -1,5 +1,5 @@
 -- What holds of every body that was read.
-use Rattle.std.specs.Prelude.{◌≡◌, ℕ, ◌^◌, ◌<◌, true, false, List, Ok, slice_index}
+use Rattle.std.specs.Prelude.{◌≡◌, ℕ, ◌^◌, ◌<◌, false, List, Ok, slice_index}
 use Rattle.sets.specs.Sets.{has, phases}
 use Rattle.parts.specs.declared.span.Part.{Part}
 use Rattle.parts.specs.Reading.{Reading}

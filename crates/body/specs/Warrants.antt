@@ -1,15 +1,15 @@
 -- A warrant depends on the bytes that it takes, and fits.
-use Rattle.std.specs.Prelude.{◌≡◌, ℕ, zero, suc, ◌+◌, ◌/◌, ◌%◌, ◌^◌, ◌<◌, Bool, true, false, cond, ◌≢◌, ◌⊎◌, List, length, set, replicate, Ok, slice_index, slice_set, refl}
+use Rattle.std.specs.Prelude.{◌≡◌, ℕ, zero, suc, ◌+◌, Bool, true, false, cond, ◌≢◌, ◌⊎◌, List, length, replicate, Ok, slice_index, slice_set, refl}
 use Rattle.std.proofs.Common.{sym, ap, ◌∙◌, inl, inr, ⊎_elim, arith}
 use Rattle.std.proofs.lemmas.List.{get_or-set_same, get_or-set_other, set_past, get_or-replicate, get_or_past}
-use Rattle.std.proofs.lemmas.Bool.{cases_Bool, cases_eq, cases_lt, true≢false}
+use Rattle.std.proofs.lemmas.Bool.{cases_eq, cases_lt, true≢false}
 use Rattle.std.proofs.lemmas.Bool.Decides.{nat_tests}
 use Rattle.std.proofs.lemmas.Nat.{pow_pos}
 use Rattle.fault.specs.declared.Layer.TheVariants as layers
 use Rattle.sets.specs.Sets.{has}
 use Rattle.parts.specs.declared.span.Part.{Part}
 use Rattle.parts.specs.Numbers.{long_word}
-use Rattle.parts.specs.Reading.{sized, part, already, and_then, giving}
+use Rattle.parts.specs.Reading.{and_then, giving}
 use Rattle.parts.specs.Settled.{Settled}
 use Rattle.parts.proofs.Settled.{long_in_front, both_read, given_read, settled_part, settled_already, settled_then, settled_giving, settled_cond}
 use Rattle.body.specs.declared.kinds.Limits.{Limits}

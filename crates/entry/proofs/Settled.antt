@@ -1,15 +1,14 @@
 -- An entry depends on the bytes that it takes, if its bodies do.
-use Rattle.std.proofs.Common.{◌≡◌, ℕ, eqb, List, [], ◌++◌, take, Ok, Result, sym, refl, ap, ◌∙◌, append-nil}
+use Rattle.std.proofs.Common.{◌≡◌, ℕ, eqb, List, [], take, Ok, sym, ap, ◌∙◌, append-nil}
 use Rattle.fault.specs.declared.Layer.TheVariants as layers
 use Rattle.parts.specs.declared.span.Part.{Part}
 use Rattle.parts.specs.Numbers.{long_word}
-use Rattle.parts.specs.Reading.{Reading, already, and_then, giving}
+use Rattle.parts.specs.Reading.{Reading, already, giving}
 use Rattle.parts.specs.Settled.{Settled}
 use Rattle.parts.proofs.Settled.{long_in_front, settled_part, settled_already, settled_then, settled_giving, settled_cond}
 use Rattle.body.specs.declared.kinds.Limits.{Limits}
 use Rattle.body.specs.declared.kinds.Body.{Body}
 use Rattle.body.specs.Bodies.{places_tests, places}
-use Rattle.entry.specs.declared.letter.Bodies.{Bodies}
 use Rattle.entry.specs.declared.letter.Bodies.TheVariants.{None, One, Two}
 use Rattle.entry.specs.declared.letter.Entry.TheVariants.{Carried, Forged}
 use Rattle.entry.specs.declared.letter.Head.{Head}

@@ -1,4 +1,4 @@
-use Rattle.std.proofs.Common.{◌≡◌, sym, arith, rules}
+use Rattle.std.proofs.Common.{rules}
 use Rattle.std.proofs.lemmas.List.{length-drop}
 use Rattle.parts.proofs.Settled.{read_behind}
 use Rattle.entry.specs.Entries.{bodies_of}
@@ -8,27 +8,27 @@ pub returns-then-count-eq0 : goal.returns-then-count-eq0
 unfolding bodies_of
 returns-then-count-eq0 g c = search rules
 
-pub returns-in-err-first : goal.returns-in-err-first
+pub returns-in_err-first : goal.returns-in_err-first
 unfolding bodies_of
-returns-in-err-first g c = search rules
+returns-in_err-first g c = search rules
 
 pub returns-then-count-eq1 : goal.returns-then-count-eq1
 unfolding bodies_of
 returns-then-count-eq1 g c = search rules
 
-pub returns-in-err-second : goal.returns-in-err-second
+pub returns-in_err-second : goal.returns-in_err-second
 unfolding bodies_of
-returns-in-err-second g c =
-    let y = read_behind (g.B.BodySort.reading c.args.limits) c.args.span.bytes.now c.args.span.offset c.in-ok-first.first.size c.behind.ensures.bytes c.behind.ensures.offset c.in-ok-first.ensures.within c.in-err-second.ensures.answer in
+returns-in_err-second g c =
+    let y = read_behind (g.B.BodySort.reading c.args.limits) c.args.span.bytes.now c.args.span.offset c.in_ok-first.first.size c.behind.ensures.bytes c.behind.ensures.offset c.in_ok-first.ensures.within c.in_err-second.ensures.answer in
     search rules
 
 pub returns : goal.returns
 unfolding bodies_of
 returns g c =
     let bs = c.args.span.bytes.now in
-    let f = c.in-ok-first.first in
-    let m = c.in-ok-second.ensures in
-    let y = read_behind (g.B.BodySort.reading c.args.limits) bs c.args.span.offset f.size c.behind.ensures.bytes c.behind.ensures.offset c.in-ok-first.ensures.within m.answer in
+    let f = c.in_ok-first.first in
+    let m = c.in_ok-second.ensures in
+    let y = read_behind (g.B.BodySort.reading c.args.limits) bs c.args.span.offset f.size c.behind.ensures.bytes c.behind.ensures.offset c.in_ok-first.ensures.within m.answer in
     let d = length-drop f.size bs in
     let w = simp c.behind.ensures.bytes at m.within in
     search rules

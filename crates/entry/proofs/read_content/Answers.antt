@@ -1,4 +1,4 @@
-use Rattle.std.proofs.Common.{◌≡◌, ℕ, ◌+◌, ◌-◌, length, take, drop, sym, ap, ◌∙◌, arith}
+use Rattle.std.proofs.Common.{◌≡◌, ℕ, ◌+◌, ◌-◌, drop, sym, ap, ◌∙◌, arith}
 use Rattle.std.proofs.lemmas.List.{length-drop}
 use Rattle.fault.specs.declared.Layer.TheVariants as layers
 use Rattle.parts.specs.declared.span.Part.{Part}
@@ -15,10 +15,10 @@ returns g c =
     let lim = c.args.limits in
     let body = giving g.B.BodySort.body (g.B.BodySort.reading lim) in
     let bs = c.args.span.bytes.now in
-    let f = c.in-ok-proper.proper in
-    let b = c.in-ok-bodies.bodies in
-    let l = c.in-ok-proper.ensures in
-    let m = c.in-ok-bodies.ensures in
+    let f = c.in_ok-proper.proper in
+    let b = c.in_ok-bodies.bodies in
+    let l = c.in_ok-proper.ensures in
+    let m = c.in_ok-bodies.ensures in
     let read = bodies_of body c.args.head.count in
     let y = read_behind read bs c.args.span.offset f.size c.behind-rest.ensures.bytes c.behind-rest.ensures.offset l.within m.answer in
     let z = alone read (settled_bodies body (g.met.B.BodySort.sound lim).settled c.args.head.count) c.behind-rest.result.bytes.now c.behind-rest.result.offset (placed_at c.front-own.result.bytes.now c.front-own.result.offset) b (sym m.answer) in

@@ -1,4 +1,4 @@
-use Rattle.std.proofs.Common.{◌≡◌, ℕ, ◌+◌, length, drop, Some, sym, ap, ◌∙◌, arith, rules}
+use Rattle.std.proofs.Common.{◌≡◌, ◌+◌, drop, Some, sym, ◌∙◌, arith, rules}
 use Rattle.std.proofs.lemmas.List.{length-drop}
 use Rattle.parts.specs.Reading.{giving}
 use Rattle.parts.proofs.Settled.{read_behind}
@@ -11,13 +11,13 @@ use Rattle.bag.proofs.checked.entries.read_entries.Goals as goal
 pub loop-k-init : goal.loop-k-init
 loop-k-init g c = rw c.new-offsets.ensures (begun c.args.limits c.args.most (giving g.B.BodySort.body (g.B.BodySort.reading c.args.limits)) c.args.span.bytes.now c.args.span.offset c.args.count)
 
-pub returns-in-err-entry : goal.returns-in-err-entry
-returns-in-err-entry g c =
+pub returns-in_err-entry : goal.returns-in_err-entry
+returns-in_err-entry g c =
     let body = giving g.B.BodySort.body (g.B.BodySort.reading c.args.limits) in
     let bs = c.args.span.bytes.now in
     let read = entry c.args.limits c.args.most body (is_filed c.loop-k.offsets.cells) in
-    let y = read_behind (giving Some read) bs c.args.span.offset c.loop-k.used c.behind.ensures.bytes c.behind.ensures.offset c.loop-k.invariant.to c.in-err-entry.ensures.answer in
-    let n = opened_err body read (drop c.loop-k.used bs) (c.args.span.offset + c.loop-k.used) c.in-err-entry.field-0.0 (sym y) in
+    let y = read_behind (giving Some read) bs c.args.span.offset c.loop-k.used c.behind.ensures.bytes c.behind.ensures.offset c.loop-k.invariant.to c.in_err-entry.ensures.answer in
+    let n = opened_err body read (drop c.loop-k.used bs) (c.args.span.offset + c.loop-k.used) c.in_err-entry.field-0.0 (sym y) in
     let t = refused c.loop-k.invariant (omega arith) n in
     search rules
 
@@ -26,9 +26,9 @@ loop-k-preserved g c =
     let body = giving g.B.BodySort.body (g.B.BodySort.reading c.args.limits) in
     let bs = c.args.span.bytes.now in
     let read = entry c.args.limits c.args.most body (is_filed c.loop-k.offsets.cells) in
-    let m = c.in-ok-entry.ensures in
+    let m = c.in_ok-entry.ensures in
     let y = read_behind (giving Some read) bs c.args.span.offset c.loop-k.used c.behind.ensures.bytes c.behind.ensures.offset c.loop-k.invariant.to m.answer in
-    let o = opened_ok body read (drop c.loop-k.used bs) (c.args.span.offset + c.loop-k.used) c.in-ok-entry.entry (sym y) in
+    let o = opened_ok body read (drop c.loop-k.used bs) (c.args.span.offset + c.loop-k.used) c.in_ok-entry.entry (sym y) in
     let d = length-drop c.loop-k.used bs in
     let w = simp c.behind.ensures.bytes at m.within in
     more c.loop-k.invariant o.whole (omega arith) o.whole_read (o.recipient ∙ sym c.recipient.ensures) (o.sender ∙ sym c.sender.ensures) o.size c.file.ensures (omega (arith, c.loop-k.invariant.to))
