@@ -31,5 +31,5 @@ pub trait Printable: Candidate {
 
     // Writes the printed form, byte for byte.
     fn print<W: fmt::Write>(&self, f: &mut fmt::Formatter<W>) -> fmt::Result
-        ensures { WritesOnOk write_str_gives f.old result (text self.now) f.new };
+        ensures { WritesOnOk W.write_str_gives f.old result (text self.now) f.new };
 }
