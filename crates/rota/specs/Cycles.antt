@@ -1,5 +1,5 @@
 -- Schedules that repeat: turn by turn, and by written entries.
-use Rattle.std.specs.Prelude.{ℕ, ◌%◌, Bool, cond, ◌&&◌, ltb, List, length, nat_eq, nat_le, nat_lt, slice_index}
+use Rattle.std.specs.Prelude.{ℕ, ◌%◌, Bool, cond, ◌&&◌, List, length, ◌==◌, nat_le, nat_lt, slice_index}
 use Rattle.sets.specs.Sets.{all_below, any_below, is_host_count, phases}
 use Rattle.rota.specs.Schedule.{Schedule}
 
@@ -17,11 +17,11 @@ turn_by_turn n = cond (is_host_count n) (cycle n n (λ i. i)) void
 
 -- one of the first len entries names h
 abbrev pub names : List ℕ → ℕ → ℕ → Bool
-names es len h = any_below len (λ i. nat_eq (slice_index es i) h)
+names es len h = any_below len (λ i. slice_index es i == h)
 
 -- the first len entries name hosts below n, and each of them
 abbrev pub names_exactly : List ℕ → ℕ → ℕ → Bool
-names_exactly es len n = all_below len (λ i. ltb (slice_index es i) n) && all_below n (names es len)
+names_exactly es len n = all_below len (λ i. nat_lt (slice_index es i) n) && all_below n (names es len)
 
 -- 1 to 64 entries can be a rota of n hosts
 abbrev pub is_written : ℕ → List ℕ → Bool

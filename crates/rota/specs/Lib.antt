@@ -2,4 +2,3 @@ pub mod Schedule
 pub mod Cycles
 pub mod Written
 pub mod Repeating
-pub mod Entries

@@ -1,12 +1,13 @@
 -- A cycle keeps the law of rotas.
-use Rattle.std.specs.Prelude.{◌≡◌, ℕ, ◌+◌, ◌*◌, ◌/◌, ◌%◌, ◌<◌, ◌≤◌, Bool, true, false, cond, nat_lt, refl}
+use Rattle.std.specs.Prelude.{◌≡◌, ℕ, ◌+◌, ◌*◌, ◌/◌, ◌%◌, ◌<◌, ◌≤◌, Bool, true, false, cond, List, ◌==◌, nat_lt, slice_index, refl}
 use Rattle.std.proofs.Common.{ap, ◌∙◌, inl, inr, div-add-mod', add-mul, one-mul, mod-lt, arith}
 use Rattle.std.proofs.Math.Arith.{digits_mod}
 use Rattle.std.proofs.lemmas.Bool.Decides.{nat_tests}
-use Rattle.std.proofs.lemmas.Bool.{cases_lt, cond-true, lt-ltb}
-use Rattle.sets.specs.Sets.{is_host_count, phases}
+use Rattle.std.proofs.lemmas.Bool.{cases_lt, cond-true, lt-ltb, and_parts, eqb-true, ltb-true}
+use Rattle.sets.specs.Sets.{all_below, is_host_count, phases}
+use Rattle.sets.proofs.Tests.{all_each, any_some}
 use Rattle.rota.specs.Schedule.{Schedule, Sound}
-use Rattle.rota.specs.Cycles.{void, cycle, turn_by_turn}
+use Rattle.rota.specs.Cycles.{void, cycle, names, names_exactly, turn_by_turn}
 
 -- a number from k on, less than len past it, that leaves i
 pub record Turn (len i k : ℕ) : Type 0 where
@@ -65,3 +66,13 @@ sound_if false s h = sound_void
 -- turn by turn keeps the law
 pub sound_turns : (n : ℕ) → Sound (turn_by_turn n)
 sound_turns n = sound_if (is_host_count n) (cycle n n (λ i. i)) (λ _. sound_cycle n n (λ i. i) (λ some. some) (λ i l. l) (λ h l. record { at = h; low = l; is = refl }))
+
+-- entries that name exactly the hosts make a sound schedule
+pub sound_entries : (n len : ℕ) (es : List ℕ) → (0 < n → 0 < len) → names_exactly es len n ≡ true → Sound (cycle n len (λ i. slice_index es i))
+sound_entries n len es long exact =
+    let both = and_parts (all_below len (λ i. nat_lt (slice_index es i) n)) (all_below n (names es len)) exact in
+    sound_cycle n len (λ i. slice_index es i) long
+    (λ i l. ltb-true (slice_index es i) n (all_each len (λ j. nat_lt (slice_index es j) n) both.0 i l))
+    (λ h l.
+    let w = any_some len (λ i. slice_index es i == h) (all_each n (names es len) both.1 h l) in
+    record { at = w.0; low = w.1; is = eqb-true (slice_index es w.0) h w.2 })

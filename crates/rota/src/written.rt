@@ -1,10 +1,9 @@
 // Rotas by a list of entries.
-ghost use Rattle.std.specs.Prelude.{◌≡◌, ℕ, ◌<◌, ◌≤◌, true, ltb, length, nat_lt, slice_index};
+ghost use Rattle.std.specs.Prelude.{◌≡◌, ℕ, ◌<◌, ◌≤◌, true, length, nat_lt, slice_index};
 ghost use Rattle.sets.specs.Sets.{all_below};
 ghost use Rattle.rota.specs.Cycles.{by_entries, is_written, names, cycle};
 ghost use Rattle.rota.specs.Written.{written_schedule};
-ghost use Rattle.rota.specs.Repeating.{sound_if};
-ghost use Rattle.rota.specs.Entries.{sound_entries};
+ghost use Rattle.rota.specs.Repeating.{sound_entries, sound_if};
 
 use crate::Rota;
 use entries::WrittenRota;
@@ -14,7 +13,7 @@ pub mod entries;
 
 // Whether each entry is below n.
 fn are_below(entries: &[u8], n: u8) -> bool
-    ensures { result ≡ all_below (length entries.now) (λ i. ltb (slice_index entries.now i) n) }
+    ensures { result ≡ all_below (length entries.now) (λ i. nat_lt (slice_index entries.now i) n) }
 {
     for entry in entries {
         if *entry >= n {

@@ -17,5 +17,5 @@ returns g c =
     record {
       answer = search rules;
       number = search rules;
-      placed = subst (λ (ps : List (Option ℕ)). Placed equal c.args.n c.args.faulty cs xs ps) (sym c.places-of-places.ensures) (placed equal laws.symmetric laws.transitive c.args.n c.args.faulty cs xs few apart all);
+      placed = subst (λ (ps : List (Option ℕ)). Placed equal c.args.n c.args.faulty cs xs ps) (sym c.places_of-places.ensures) (placed equal laws.symmetric laws.transitive c.args.n c.args.faulty cs xs few apart all);
     }

@@ -6,8 +6,8 @@ use Rattle.rota.proofs.written.name_all.Goals as goal
 pub loop-host-init : goal.loop-host-init
 loop-host-init c = all_none _
 
-pub returns-then-not-name-host : goal.returns-then-not-name-host
-returns-then-not-name-host c =
+pub returns-then-not-name_host : goal.returns-then-not-name_host
+returns-then-not-name_host c =
     let es = c.args.entries.now in
     sym (all_false c.args.n (names es (length es)) c.loop-host.host (omega arith) (grind arith))
 
