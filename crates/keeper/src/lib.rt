@@ -15,8 +15,6 @@ pub mod position;
 pub trait Keeper {
     ghost keeping: { Self → Keeping };
 
-    ghost sound: { (k : Self) → Sound (keeping k) };
-
     // How many hosts take part.
     fn host_count(&self) -> u8
         ensures { result ≡ (keeping self.now).hosts };
@@ -41,6 +39,8 @@ pub trait Keeper {
     fn seal(&mut self, at: Position, number: u32) -> Result<(), Refusal>
         ensures answer { result ≡ sealing (keeping self.old) at }
         ensures after { keeping self.new ≡ sealed (keeping self.old) at number };
+
+    ghost sound: { (k : Self) → Sound (keeping k) };
 }
 
 // Sees to it that a number is genuine: seals it, unless it is so already. May be called again after a run that was broken off.
