@@ -16,9 +16,9 @@ pub record Free (k : Keeping) (at : Position) : Type 0 where
   pub none : k.held at ≡ None
 
 -- nothing is there
-is_none : (o : Option ℕ) → is_some o ≡ false → o ≡ None
-is_none None e = refl
-is_none (Some x) e = absurd (grind arith)
+nothing_there : (o : Option ℕ) → is_some o ≡ false → o ≡ None
+nothing_there None e = refl
+nothing_there (Some x) e = absurd (grind arith)
 
 -- what an accepted sealing says
 pub free : (k : Keeping) (at : Position) → Ok tt ≡ sealing k at → Free k at
@@ -28,7 +28,7 @@ free k at e =
       host = grind (arith, nat_tests);
       phase = grind (arith, nat_tests);
       shut = grind (arith, nat_tests);
-      none = is_none (k.held at) (grind (arith, nat_tests));
+      none = nothing_there (k.held at) (grind (arith, nat_tests));
     }
 
 -- it holds one number more

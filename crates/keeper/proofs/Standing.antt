@@ -35,8 +35,8 @@ genuine_is k at x e =
     (a.0, ⊎_elim inl (λ h. inr (holds_is (k.held at) x h)) (or_cases (has k.opened at.host) (holds (k.held at) x) a.1))
 
 -- and it is so for these reasons
-is_genuine_lem : (k : Keeping) (at : Position) (x : ℕ) → is_inside k at ≡ true → (has k.opened at.host ≡ true) ⊎ (k.held at ≡ Some x) → is_genuine k at x ≡ true
-is_genuine_lem k at x i why = and_from (is_inside k at) _ i (⊎_elim (λ o. or_left (has k.opened at.host) _ o) (λ h. or_right (has k.opened at.host) _ (is_held (k.held at) x h)) why)
+genuine_from : (k : Keeping) (at : Position) (x : ℕ) → is_inside k at ≡ true → (has k.opened at.host ≡ true) ⊎ (k.held at ≡ Some x) → is_genuine k at x ≡ true
+genuine_from k at x i why = and_from (is_inside k at) _ i (⊎_elim (λ o. or_left (has k.opened at.host) _ o) (λ h. or_right (has k.opened at.host) _ (is_held (k.held at) x h)) why)
 
 -- a genuine number of a host that is not open is held
 genuine_held : (k : Keeping) (at : Position) (x : ℕ) → has k.opened at.host ≡ false → is_genuine k at x ≡ true → k.held at ≡ Some x
@@ -49,7 +49,7 @@ genuine_for_good k at x e =
     let after : Sealings → Keeping = λ later. holding k (sealed_all k later).held in
     let now : (later : Sealings) (y : ℕ) → is_genuine (sealed_all k later) at y ≡ is_genuine (after later) at y = λ later y. ap (λ (l : Keeping). is_genuine l at y) (bounds_stay k later) in
     record {
-      genuine = λ later. now later x ∙ is_genuine_lem (after later) at x is.0 (⊎_elim inl (λ h. inr (held_stays k later at x h)) is.1);
+      genuine = λ later. now later x ∙ genuine_from (after later) at x is.0 (⊎_elim inl (λ h. inr (held_stays k later at x h)) is.1);
       only = λ later y shut f.
           let one = held_stays k later at x (genuine_held k at x shut e) in
           let two = genuine_held (after later) at y shut (sym (now later y) ∙ f) in
@@ -58,7 +58,7 @@ genuine_for_good k at x e =
 
 -- a number that is sealed is genuine
 sealed_genuine : (k : Keeping) (at : Position) (x : ℕ) → Ok tt ≡ sealing k at → is_genuine (sealed k at x) at x ≡ true
-sealed_genuine k at x ok = is_genuine_lem (sealed k at x) at x (free_inside k at (free k at ok)) (inr (ap (λ (m : Map). m at) (sealed_held k at x ok) ∙ with_here k.held at x))
+sealed_genuine k at x ok = genuine_from (sealed k at x) at x (free_inside k at (free k at ok)) (inr (ap (λ (m : Map). m at) (sealed_held k at x ok) ∙ with_here k.held at x))
 
 -- so an accepted sealing is for good
 pub sealing_for_good : (k l : Keeping) (at : Position) (x : ℕ) (r : Result (Unit {0}) Refusal) → r ≡ sealing k at → l ≡ sealed k at x → IfOk r (λ _. ForGood l at x)
@@ -71,7 +71,7 @@ sealed_own k s at x shut e =
     let i = (genuine_is (sealed k s.0 s.1) at x e).0 in
     let is = genuine_held (sealed k s.0 s.1) at x shut e in
     ⊎_elim
-    (λ same. inl (is_genuine_lem k at x i (inr (sym same ∙ is))))
+    (λ same. inl (genuine_from k at x i (inr (sym same ∙ is))))
     (λ new.
     let same = some_one s.1 x (sym new.now ∙ is) in
     inr (λ j. (new.here j, same j), sym (ap (sealing k) new.here) ∙ sym new.ok))

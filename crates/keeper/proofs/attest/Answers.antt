@@ -2,8 +2,8 @@ use Rattle.std.proofs.Common.{rules}
 use Rattle.keeper.proofs.Standing.{genuine_for_good, sealing_for_good}
 use Rattle.keeper.proofs.attest.Goals as goal
 
-pub returns-then-is-genuine : goal.returns-then-is-genuine
-returns-then-is-genuine g c = record {
+pub returns-then-is_genuine : goal.returns-then-is_genuine
+returns-then-is_genuine g c = record {
   answer = search rules;
   after = search rules;
   stands = genuine_for_good (g.K.Keeper.keeping c.args.keeper.now) c.args.at c.args.number (search rules);
