@@ -1,6 +1,6 @@
 -- Worked values: what the definitions come to on small examples that were worked out by hand.
 use Rattle.std.specs.Prelude.{◌≡◌, ℕ, Bool, true, false, List, [], ◌∷◌}
-use Rattle.std.specs.List.{AllByRecursion as All}
+use Rattle.std.specs.List.{AllByRecursion}
 use Rattle.candidate.specs.declared.term.Term.{Term}
 use Rattle.candidate.specs.declared.term.TimeUnit.{TimeUnit}
 use Rattle.candidate.specs.declared.term.TimeUnit.TheVariants.{Days, Months, Years, UntilClose}
@@ -95,4 +95,4 @@ values =
 
 -- each definition gives what was worked out
 abbrev pub WorkedValues : Type 0
-WorkedValues = All (λ v. v.0 ≡ v.1) values
+WorkedValues = AllByRecursion (λ v. v.0 ≡ v.1) values
