@@ -2,7 +2,7 @@
 ghost use Rattle.std.specs.Prelude.{◌≡◌, IfOk};
 ghost use Rattle.keeper.specs.Keeping.{fresh};
 ghost use Rattle.book.specs.Books.{keeping_of};
-ghost use Rattle.std.proofs.Common.{rules, arith};
+ghost use Rattle.std.proofs.Common.{rules};
 
 use crate::Book;
 use crate::row::{Row, find};
@@ -26,7 +26,7 @@ impl Book {
 impl Keeper for Book {
     ghost keeping = { keeping_of };
 
-    ghost sound = { first_of (Prim.search rules, Prim.grind (arith, Self.row.coded.inj)) };
+    ghost sound = { Prim.search rules };
 
     fn host_count(&self) -> u8 {
         self.bounds.hosts

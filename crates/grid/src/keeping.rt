@@ -3,7 +3,7 @@ ghost use Rattle.std.specs.Prelude.{◌≡◌, IfOk};
 ghost use Rattle.keeper.specs.Keeping.{fresh};
 ghost use Rattle.grid.specs.Cells.{cell_of};
 ghost use Rattle.grid.specs.Grids.{keeping_of};
-ghost use Rattle.std.proofs.Common.{rules, arith};
+ghost use Rattle.std.proofs.Common.{rules};
 
 use crate::Grid;
 use fault::Refusal;
@@ -52,7 +52,7 @@ impl Grid {
 impl Keeper for Grid {
     ghost keeping = { keeping_of };
 
-    ghost sound = { first_of (Prim.search rules, Prim.grind (arith, Self.row.coded.inj)) };
+    ghost sound = { Prim.search rules };
 
     fn host_count(&self) -> u8 {
         self.bounds.hosts

@@ -1,11 +1,13 @@
 -- What an accepted sealing says of its position, and what it leaves.
-use Rattle.std.proofs.Common.{◌≡◌, ℕ, ◌^◌, ◌<◌, true, false, ltb, ◌⊎◌, is_some, Some, None, Ok, Option, sym, refl, ap, ◌∙◌, inl, inr, ⊎_elim, arith}
+use Rattle.std.proofs.Common.{◌≡◌, ℕ, ◌^◌, ◌<◌, true, false, ltb, ◌⊎◌, is_some, Some, None, Ok, Err, Option, sym, refl, ap, ◌∙◌, inl, inr, ⊎_elim, arith}
 use Rattle.std.proofs.lemmas.Bool.{cases_Bool, cond-true, cond-false, and_from, lt-ltb}
 use Rattle.std.proofs.lemmas.Bool.Decides.{nat_tests}
+use Rattle.fault.specs.declared.Refusal.{Refusal}
+use Rattle.fault.specs.Refusals.{unless}
 use Rattle.fault.proofs.Accepted.{no_refusal, accepted}
 use Rattle.sets.specs.Sets.{has}
 use Rattle.keeper.specs.declared.position.Position.{Position}
-use Rattle.keeper.specs.Keeping.{Keeping, Map, is_inside, seal_fault, sealing, sealed, same_position, with_number, fits, AllFit}
+use Rattle.keeper.specs.Keeping.{Keeping, Map, holding, is_inside, seal_fault, sealing, sealed, same_position, with_number, fits, AllFit}
 use Rattle.keeper.proofs.Positions.{same_is, with_other}
 
 -- a number can be sealed there
@@ -34,6 +36,15 @@ free k at e =
 -- it holds one number more
 pub sealed_held : (k : Keeping) (at : Position) (x : ℕ) → Ok tt ≡ sealing k at → (sealed k at x).held ≡ with_number k.held at x
 sealed_held k at x e = cond-false (is_some (seal_fault k at)) k.held _ (ap is_some (no_refusal tt tt (seal_fault k at) e))
+
+-- what a refused sealing says
+refused : {X F : Type 0} (x : X) (o : Option F) (f : F) → Err f ≡ unless o x → is_some o ≡ true
+refused x None f e = absurd (grind arith)
+refused x (Some r) f e = refl
+
+-- it leaves the keeper as it was
+pub sealed_refused : (k : Keeping) (at : Position) (x : ℕ) (f : Refusal) → Err f ≡ sealing k at → k ≡ sealed k at x
+sealed_refused k at x f e = ap (holding k) (sym (cond-true (is_some (seal_fault k at)) k.held _ (refused tt (seal_fault k at) f e)))
 
 -- some number is not none
 pub no_number : (x : ℕ) → None ≡ Some x → ⊥

@@ -5,15 +5,15 @@ use Rattle.book.specs.declared.row.Row.{Row}
 use Rattle.book.specs.Rows.{found}
 use Rattle.book.proofs.row.find.Goals as goal
 
-pub returns-then-is-same : goal.returns-then-is-same
-returns-then-is-same c =
-    sym (cond-true _ (Some _) _ (sym c.if-is-same.ensures))
+pub returns-then-is_same : goal.returns-then-is_same
+returns-then-is_same c =
+    sym (cond-true _ (Some _) _ (sym c.if-is_same.ensures))
     ∙ sym (at_drop_more (λ (rs : List Row). found rs c.args.at) c.args.rows.now c.loop-row.row-index _ c.loop-row-test.true)
     ∙ c.loop-row.invariant
 
 pub loop-row-preserved : goal.loop-row-preserved
 loop-row-preserved c =
-    sym (cond-false _ (Some _) _ (sym c.if-is-same.ensures))
+    sym (cond-false _ (Some _) _ (sym c.if-is_same.ensures))
     ∙ sym (at_drop_more (λ (rs : List Row). found rs c.args.at) c.args.rows.now c.loop-row.row-index _ c.loop-row-test.true)
     ∙ c.loop-row.invariant
 
