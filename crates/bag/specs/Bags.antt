@@ -3,7 +3,7 @@ use Rattle.std.specs.Prelude.{ℕ, zero, suc, ◌+◌, ◌/◌, ◌%◌, ◌^◌
 use Rattle.fault.specs.declared.Refusal.TheVariants.{OtherRound, NotZero, LeftOver}
 use Rattle.fault.specs.declared.Layer.TheVariants as layers
 use Rattle.fault.specs.declared.Fault.{Fault}
-use Rattle.fault.specs.Refusals.{first_of}
+use Rattle.fault.specs.Refusals.{first_that_holds}
 use Rattle.parts.specs.Numbers.{triple}
 use Rattle.parts.specs.Reading.{Reading, Tests, then, unless_refused, part}
 use Rattle.body.specs.declared.kinds.Limits.{Limits}
@@ -46,7 +46,7 @@ bag_head awaited = part 3 triple layers.Bag (bag_tests awaited) (λ w. w % 256)
 
 -- so many entries one behind the other, each of a pair that had none, and no byte behind the last
 unfoldable pub entries_from : Limits → ℕ → Reading Body → ℕ → Mail → List ℕ → ℕ → Result Mail Fault
-entries_from lim most body zero mail bs at = unless_refused layers.Bag at (first_of ((nat_lt 0 (length bs), LeftOver) ∷ [])) mail
+entries_from lim most body zero mail bs at = unless_refused layers.Bag at (first_that_holds ((nat_lt 0 (length bs), LeftOver) ∷ [])) mail
 entries_from lim most body (suc n) mail bs at =
     then (entry lim most body (is_met mail) bs at) (λ m.
     entries_from lim most body n (with_entry mail m.value) (drop m.size bs) (at + m.size))

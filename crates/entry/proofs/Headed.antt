@@ -1,7 +1,7 @@
 -- What an accepted entry says: its head passed its tests, and what stands behind it was read.
 use Rattle.std.proofs.Common.{◌≡◌, ℕ, ◌+◌, ◌≤◌, List, length, drop, None, Ok}
 use Rattle.fault.specs.declared.Layer.TheVariants as layers
-use Rattle.fault.specs.Refusals.{first_of}
+use Rattle.fault.specs.Refusals.{first_that_holds}
 use Rattle.parts.specs.declared.span.Part.{Part}
 use Rattle.parts.specs.Numbers.{word}
 use Rattle.parts.specs.Reading.{Reading, Tests, sized, part, giving}
@@ -23,7 +23,7 @@ met_by h = met h.recipient h.sender
 -- of an entry that was read
 pub record Headed (tests : Head → Tests) (lim : Limits) (body : Reading Body) (bs : List ℕ) (at : ℕ) (p : Part Met) : Type 0 where
   pub there : 2 ≤ length bs
-  pub passed : first_of (tests (head_of bs)) ≡ None
+  pub passed : first_that_holds (tests (head_of bs)) ≡ None
   pub rest : Part Entry
   pub rest_read : content lim body (head_of bs) (drop 2 bs) (at + 2) ≡ Ok rest
   pub is : p ≡ sized (met_by (head_of bs) rest.value) (2 + rest.size)
@@ -44,7 +44,7 @@ module _ (tests : Head → Tests) (lim : Limits) (body : Reading Body) where
       let g = given_read (met_by (head_of bs)) (content lim body (head_of bs)) (drop 2 bs) (at + 2) b.aft (rw r.is at b.aft_read) in
       record { there = r.there; passed = r.passed; rest = g.0; rest_read = g.1; is = cc }
 
-  pub headed_is : (bs : List ℕ) (at : ℕ) (e : Part Entry) → 2 ≤ length bs → first_of (tests (head_of bs)) ≡ None → content lim body (head_of bs) (drop 2 bs) (at + 2) ≡ Ok e
+  pub headed_is : (bs : List ℕ) (at : ℕ) (e : Part Entry) → 2 ≤ length bs → first_that_holds (tests (head_of bs)) ≡ None → content lim body (head_of bs) (drop 2 bs) (at + 2) ≡ Ok e
       → headed tests lim body bs at ≡ Ok (sized (met_by (head_of bs) e.value) (2 + e.size))
   headed_is bs at e l n c =
       both_is front behind bs at (sized (head_of bs) 2) (sized (met_by (head_of bs) e.value) e.size)

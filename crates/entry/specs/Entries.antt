@@ -18,7 +18,7 @@ use Rattle.entry.specs.declared.letter.Head.{Head}
 -- forged (1 bit), sender (4), recipient (4), input (5), number of bodies (2)
 abbrev pub fields : ℕ → Head
 fields w = record {
-  forged = (w / 2 ^ 15 == 1);
+  forged = w / 2 ^ 15 == 1;
   sender = w / 2 ^ 11 % 16;
   recipient = w / 2 ^ 7 % 16;
   input = w / 2 ^ 2 % 32;
@@ -33,7 +33,7 @@ differ a b = cond a (not b) b
 abbrev pub head_tests : Limits → ℕ → (ℕ → ℕ → Bool) → Head → Tests
 head_tests lim most met h =
     (nat_le lim.hosts h.sender || nat_le lim.hosts h.recipient, UnknownHost)
-    ∷ ((h.sender == h.recipient), SameHost)
+    ∷ (h.sender == h.recipient, SameHost)
     ∷ (has lim.faulty h.recipient, FaultyRecipient)
     ∷ (differ h.forged (has lim.faulty h.sender), WrongOrigin)
     ∷ (met h.recipient h.sender, PairMet)

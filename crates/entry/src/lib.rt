@@ -2,7 +2,7 @@
 #![tactic(auto)]
 
 ghost use Rattle.std.specs.Prelude.{◌≡◌, ◌≤◌, length, IfOk, Some};
-ghost use Rattle.fault.specs.Refusals.{first_of};
+ghost use Rattle.fault.specs.Refusals.{first_that_holds};
 ghost use Rattle.parts.specs.Reading.{giving};
 ghost use Rattle.entry.specs.Entries.{bodies_of, content, entry, fields, head_tests, met};
 ghost use Rattle.entry.specs.Raw.{Borrows, entry_of, opened, recipient_of, sender_of};
@@ -34,7 +34,7 @@ impl Head {
 
     // The first thing that is wrong with a head, in a round whose letters have at most so many bodies.
     pub fn refusal(&self, limits: Limits, most: u8, is_met: bool) -> Option<Refusal>
-        ensures { result ≡ first_of (head_tests limits most (λ _ _. is_met) self.now) }
+        ensures { result ≡ first_that_holds (head_tests limits most (λ _ _. is_met) self.now) }
     {
         if self.sender >= limits.hosts || self.recipient >= limits.hosts {
             return Some(Refusal::UnknownHost);

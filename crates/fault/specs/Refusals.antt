@@ -60,9 +60,9 @@ number_in (Ok x) = 0
 number_in (Err f) = number f
 
 -- what stands behind the first test that holds
-abbrev pub first_of : {X : Type 0} → List (Bool × X) → Option X
-first_of [] = None
-first_of (row ∷ rows) = cond row.0 (Some row.1) (first_of rows)
+abbrev pub first_that_holds : {X : Type 0} → List (Bool × X) → Option X
+first_that_holds [] = None
+first_that_holds (row ∷ rows) = cond row.0 (Some row.1) (first_that_holds rows)
 
 -- x, unless there is a refusal
 abbrev pub unless : {X F : Type 0} → Option F → X → Result X F

@@ -1,5 +1,5 @@
 -- How many numbers are held: none at first, one more with each sealing, and never more than there are positions.
-use Rattle.std.proofs.Common.{◌≡◌, ℕ, ◌+◌, ◌*◌, ◌<◌, ◌≤◌, true, cond, ◌≢◌, [], ◌∷◌, is_some, Some, None, Ok, Option, sym, refl, ap, ◌∙◌, subst, ⊎_elim, true≢false, mul_assoc, mul_comm, arith}
+use Rattle.std.proofs.Common.{◌≡◌, ℕ, ◌+◌, ◌*◌, ◌<◌, ◌≤◌, cond, ◌≢◌, [], ◌∷◌, is_some, Some, None, Ok, Option, sym, refl, ap, ◌∙◌, subst, ⊎_elim, true≢false, mul_assoc, mul_comm, arith}
 use Rattle.std.proofs.lemmas.Bool.{cases_Bool, cond-true, cond-false}
 use Rattle.fault.proofs.Accepted.{accepted}
 use Rattle.sets.specs.Sets.{sum_below}
@@ -7,10 +7,10 @@ use Rattle.sets.proofs.Sums.{sum_cong, sum_more, sum_le, sum_none}
 use Rattle.keeper.specs.declared.position.Sort.{Sort}
 use Rattle.keeper.specs.declared.position.Sort.TheVariants.{List, Nomination}
 use Rattle.keeper.specs.declared.position.Position.{Position}
-use Rattle.keeper.specs.Keeping.{Keeping, Map, position, holding, seal_fault, sealing, sealed, with_number, same_sort, held_count, empty}
+use Rattle.keeper.specs.Keeping.{Keeping, Map, position, seal_fault, sealing, sealed, with_number, same_sort, held_count, empty}
 use Rattle.keeper.specs.Seals.{Sealings, sealed_all, accepted_in, Counted}
 use Rattle.keeper.proofs.Positions.{same_not, with_here, with_other}
-use Rattle.keeper.proofs.Sealings.{free, sealed_held}
+use Rattle.keeper.proofs.Sealings.{free, sealed_held, sealed_not}
 
 -- 1 for one number
 abbrev one : Option ℕ → ℕ
@@ -95,10 +95,6 @@ count_below k at e = omega (arith, count_more k at 0 e, count_le (sealed k at 0)
 pub count_empty : (n opened horizon : ℕ) → held_count (empty n opened horizon) ≡ 0
 unfolding held_count
 count_empty n opened horizon = sum_none n _ (λ h. omega (arith, sum_none horizon (λ _. 0) (λ _. refl)))
-
--- a refused sealing leaves the keeper as it was
-sealed_not : (k : Keeping) (at : Position) (x : ℕ) → is_some (seal_fault k at) ≡ true → sealed k at x ≡ k
-sealed_not k at x refused = ap (holding k) (cond-true (is_some (seal_fault k at)) k.held _ refused)
 
 -- a sealing adds one number if it is accepted
 count_sealed : (k : Keeping) (at : Position) (x : ℕ) → held_count (sealed k at x) ≡ held_count k + cond (is_some (seal_fault k at)) 0 1

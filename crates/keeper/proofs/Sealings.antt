@@ -1,4 +1,4 @@
--- What an accepted sealing says of its position, and what it leaves.
+-- What an accepted sealing says of its position, and what it and a refused one leave.
 use Rattle.std.proofs.Common.{◌≡◌, ℕ, ◌^◌, ◌<◌, true, false, ltb, ◌⊎◌, is_some, Some, None, Ok, Err, Option, sym, refl, ap, ◌∙◌, inl, inr, ⊎_elim, arith}
 use Rattle.std.proofs.lemmas.Bool.{cases_Bool, cond-true, cond-false, and_from, lt-ltb}
 use Rattle.std.proofs.lemmas.Bool.Decides.{nat_tests}
@@ -37,14 +37,18 @@ free k at e =
 pub sealed_held : (k : Keeping) (at : Position) (x : ℕ) → Ok tt ≡ sealing k at → (sealed k at x).held ≡ with_number k.held at x
 sealed_held k at x e = cond-false (is_some (seal_fault k at)) k.held _ (ap is_some (no_refusal tt tt (seal_fault k at) e))
 
--- what a refused sealing says
-refused : {X F : Type 0} (x : X) (o : Option F) (f : F) → Err f ≡ unless o x → is_some o ≡ true
-refused x None f e = absurd (grind arith)
-refused x (Some r) f e = refl
+-- a refused sealing leaves the keeper as it was
+pub sealed_not : (k : Keeping) (at : Position) (x : ℕ) → is_some (seal_fault k at) ≡ true → sealed k at x ≡ k
+sealed_not k at x refused = ap (holding k) (cond-true (is_some (seal_fault k at)) k.held _ refused)
 
--- it leaves the keeper as it was
+-- a refused call has a refusal
+has_refusal : {X F : Type 0} (x : X) (o : Option F) (f : F) → Err f ≡ unless o x → is_some o ≡ true
+has_refusal x None f e = absurd (grind arith)
+has_refusal x (Some r) f e = refl
+
+-- the same, from what the sealing answered
 pub sealed_refused : (k : Keeping) (at : Position) (x : ℕ) (f : Refusal) → Err f ≡ sealing k at → k ≡ sealed k at x
-sealed_refused k at x f e = ap (holding k) (sym (cond-true (is_some (seal_fault k at)) k.held _ (refused tt (seal_fault k at) f e)))
+sealed_refused k at x f e = sym (sealed_not k at x (has_refusal tt (seal_fault k at) f e))
 
 -- some number is not none
 pub no_number : (x : ℕ) → None ≡ Some x → ⊥

@@ -2,7 +2,7 @@
 use Rattle.std.specs.Prelude.{◌≡◌, ℕ, ◌+◌, ◌*◌, ◌/◌, ◌^◌, ◌≤◌, min, Bool, true, false, cond, ◌&&◌, ◌||◌, [], ◌∷◌, is_some, Some, None, Option, Result, ◌==◌, nat_le, nat_lt}
 use Rattle.fault.specs.declared.Refusal.{Refusal}
 use Rattle.fault.specs.declared.Refusal.TheVariants.{UnknownSealer, PastHorizon, OpenSealer, SealedBefore}
-use Rattle.fault.specs.Refusals.{first_of, unless}
+use Rattle.fault.specs.Refusals.{first_that_holds, unless}
 use Rattle.sets.specs.Sets.{has, is_host_count, only_below, phases, count, sum_below}
 use Rattle.keeper.specs.declared.position.Sort.{Sort}
 use Rattle.keeper.specs.declared.position.Sort.TheVariants.{List, Nomination}
@@ -43,7 +43,7 @@ is_genuine k at x = is_inside k at && (has k.opened at.host || holds (k.held at)
 -- the first reason why no number can be sealed at a position
 abbrev pub seal_fault : Keeping → Position → Option Refusal
 seal_fault k at =
-    first_of (
+    first_that_holds (
     (nat_le k.hosts at.host, UnknownSealer)
     ∷ (nat_le k.horizon at.phase, PastHorizon)
     ∷ (has k.opened at.host, OpenSealer)

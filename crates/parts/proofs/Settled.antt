@@ -6,7 +6,7 @@ use Rattle.fault.specs.declared.Refusal.{Refusal}
 use Rattle.fault.specs.declared.Refusal.TheVariants.{ShortPart}
 use Rattle.fault.specs.declared.Layer.{Layer}
 use Rattle.fault.specs.declared.Fault.{Fault}
-use Rattle.fault.specs.Refusals.{fault_at, first_of}
+use Rattle.fault.specs.Refusals.{fault_at, first_that_holds}
 use Rattle.parts.specs.declared.span.Part.{Part}
 use Rattle.parts.specs.Numbers.{byte, word, long_word}
 use Rattle.parts.specs.Reading.{Reading, Tests, then, unless_refused, sized, part, already, grown, and_then, giving}
@@ -45,23 +45,23 @@ long_in_front bs more l =
 -- of a part: its bytes are there, none of its tests holds, and what is read is its value
 pub record Read {A : Type 0} (n : ℕ) (number : List ℕ → ℕ → ℕ) (tests : ℕ → Tests) (value : ℕ → A) (bs : List ℕ) (p : Part A) : Type 0 where
   pub there : n ≤ length bs
-  pub passed : first_of (tests (number bs 0)) ≡ None
+  pub passed : first_that_holds (tests (number bs 0)) ≡ None
   pub is : p ≡ sized (value (number bs 0)) n
 
 module _ {A : Type 0} (n : ℕ) (number : List ℕ → ℕ → ℕ) (layer : Layer) (tests : ℕ → Tests) (value : ℕ → A) where
   -- what an accepted part says
   pub part_read : (bs : List ℕ) (at : ℕ) (p : Part A) → part n number layer tests value bs at ≡ Ok p → Read n number tests value bs p
-  part_read bs at p h = go (ltb (length bs) n) refl (first_of (tests (number bs 0))) refl h
+  part_read bs at p h = go (ltb (length bs) n) refl (first_that_holds (tests (number bs 0))) refl h
     where
-      go : (b : Bool) → ltb (length bs) n ≡ b → (o : Option Refusal) → first_of (tests (number bs 0)) ≡ o
-          → then (cond b (Err (fault_at layer at ShortPart)) (Ok (number bs 0))) (λ w. unless_refused layer at (first_of (tests w)) (sized (value w) n)) ≡ Ok p
+      go : (b : Bool) → ltb (length bs) n ≡ b → (o : Option Refusal) → first_that_holds (tests (number bs 0)) ≡ o
+          → then (cond b (Err (fault_at layer at ShortPart)) (Ok (number bs 0))) (λ w. unless_refused layer at (first_that_holds (tests w)) (sized (value w) n)) ≡ Ok p
           → Read n number tests value bs p
       go true e o q k = absurd (never k)
       go false e (Some r) q k = absurd (never (rw q at k))
       go false e None q k = let z = rw q at k in record { there = grind (arith, nat_tests); passed = q; is = cc }
 
   -- and such a part is accepted
-  pub part_is : (bs : List ℕ) (at : ℕ) → n ≤ length bs → first_of (tests (number bs 0)) ≡ None → part n number layer tests value bs at ≡ Ok (sized (value (number bs 0)) n)
+  pub part_is : (bs : List ℕ) (at : ℕ) → n ≤ length bs → first_that_holds (tests (number bs 0)) ≡ None → part n number layer tests value bs at ≡ Ok (sized (value (number bs 0)) n)
   part_is bs at l e = let b : ltb (length bs) n ≡ false = grind (arith, nat_tests) in rw (b, e)
 
   pub settled_part : InFront n number → Settled (part n number layer tests value)
@@ -76,7 +76,7 @@ module _ {A : Type 0} (n : ℕ) (number : List ℕ → ℕ → ℕ) (layer : Lay
           let f = front bs more r.there in
           let l = length-append (take n bs) more in
           let k = length-take-le n bs r.there in
-          let z = part_is (take n bs ++ more) to (omega arith) (ap (λ (w : ℕ). first_of (tests w)) f ∙ r.passed) in
+          let z = part_is (take n bs ++ more) to (omega arith) (ap (λ (w : ℕ). first_that_holds (tests w)) f ∙ r.passed) in
           ap (λ (k : ℕ). part n number layer tests value (take k bs ++ more) to) s ∙ z ∙ ap (λ (w : ℕ). Ok (sized (value w) n)) f ∙ ap Ok (sym r.is)
 
 -- nothing more is read

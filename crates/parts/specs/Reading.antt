@@ -4,7 +4,7 @@ use Rattle.fault.specs.declared.Refusal.{Refusal}
 use Rattle.fault.specs.declared.Refusal.TheVariants.{ShortPart}
 use Rattle.fault.specs.declared.Layer.{Layer}
 use Rattle.fault.specs.declared.Fault.{Fault}
-use Rattle.fault.specs.Refusals.{fault_at, first_of}
+use Rattle.fault.specs.Refusals.{fault_at, first_that_holds}
 use Rattle.parts.specs.declared.span.Part.{Part}
 
 -- from the bytes that are left, and the offset of the first of them, to what stands at their front and how many bytes it takes
@@ -40,7 +40,7 @@ leading n number layer bs at = cond (nat_lt (length bs) n) (Err (fault_at layer 
 -- a part is the number in n bytes: it is refused where it is longer than what is left, and then by the first of its tests that holds
 abbrev pub part : {A : Type 0} → ℕ → (List ℕ → ℕ → ℕ) → Layer → (ℕ → Tests) → (ℕ → A) → Reading A
 part n number layer tests value bs at =
-    then (leading n number layer bs at) (λ w. unless_refused layer at (first_of (tests w)) (sized (value w) n))
+    then (leading n number layer bs at) (λ w. unless_refused layer at (first_that_holds (tests w)) (sized (value w) n))
 
 -- nothing more is read
 abbrev pub already : {A : Type 0} → A → Reading A

@@ -3,7 +3,7 @@ use Rattle.std.specs.Prelude.{ℕ, ◌+◌, ◌*◌, Bool, false, cond, not, ◌
 use Rattle.std.specs.List.{slice_get}
 use Rattle.sets.specs.Sets.{has, only_below, count, all_below, lowest, per_host, is_host_count}
 use Rattle.rota.specs.Schedule.{Schedule}
-use Rattle.fault.specs.Refusals.{number_of, first_of, unless}
+use Rattle.fault.specs.Refusals.{number_of, first_that_holds, unless}
 use Rattle.fault.specs.declared.Refusal.{Refusal}
 use Rattle.fault.specs.declared.Refusal.TheVariants.{HostCount, FaultBound, FaultSet, CandidateCount, EqualCandidates, InputCount, StrayInput, RotaHosts}
 use Rattle.setup.specs.declared.InputPlaces.{InputPlaces}
@@ -51,7 +51,7 @@ module _ {C : Type 0} (equal : C → C → Bool) where
   -- the first fault that applies to n hosts of which t may be faulty, the fault set, the candidates, the inputs and the rota
   abbrev pub setup_fault : ℕ → ℕ → ℕ → List C → List C → Schedule → Option Refusal
   setup_fault n t faulty cs xs rota =
-      first_of (
+      first_that_holds (
       (not (is_host_count n), HostCount)
       ∷ (nat_lt n (3 * t + 1), FaultBound)
       ∷ (not (is_fault_set n t faulty), FaultSet)
