@@ -85,7 +85,7 @@ genuine_since k (s ∷ ss) at x shut e = ⊎_elim
     inl
     (λ own. inr (record { before = []; later = ss; split = ap (λ (t : Position × ℕ). t ∷ ss) own.0; ok = own.1 }))
     (sealed_own k s at x shut then))
-    (λ in-ss. inr (record { before = s ∷ in-ss.before; later = in-ss.later; split = ap (λ (ts : Sealings). s ∷ ts) in-ss.split; ok = in-ss.ok }))
+    (λ in_ss. inr (record { before = s ∷ in_ss.before; later = in_ss.later; split = ap (λ (ts : Sealings). s ∷ ts) in_ss.split; ok = in_ss.ok }))
     (genuine_since (sealed k s.0 s.1) ss at x shut e)
 
 -- sealings in two parts

@@ -75,9 +75,9 @@ module _ {C : Type 0} (equal : C → C → Bool) where
 
     pub placed : (n faulty : ℕ) (cs xs : List C) → n ≤ 16 → distinct equal cs ≡ true → all_placed n faulty (places_of equal faulty cs xs) ≡ true → Placed equal n faulty cs xs (places_of equal faulty cs xs)
     placed n faulty cs xs few d all j x l honest here =
-        let here-is : ℕ → Option ℕ = λ k. get_or (places_of equal faulty cs xs) k None in
-        let each : has faulty j || is_some (here-is j) ≡ true = all_each n (λ k. has faulty k || is_some (here-is k)) all j l in
-        let some : is_some (here-is j) ≡ true = sym (ap (λ (b : Bool). b || is_some (here-is j)) honest) ∙ each in
-        let p = some_place (here-is j) some in
+        let here_is : ℕ → Option ℕ = λ k. get_or (places_of equal faulty cs xs) k None in
+        let each : has faulty j || is_some (here_is j) ≡ true = all_each n (λ k. has faulty k || is_some (here_is k)) all j l in
+        let some : is_some (here_is j) ≡ true = sym (ap (λ (b : Bool). b || is_some (here_is j)) honest) ∙ each in
+        let p = some_place (here_is j) some in
         let at = get_or-per_host (place_at equal faulty cs xs) None j (omega arith) in
         (p.0, p.1, only_place cs x p.0 d (sym (place_honest faulty cs xs j (Some x) honest here) ∙ sym at ∙ p.1))
