@@ -1,5 +1,5 @@
 -- Tests over a list and over a range, in the words of tests over the numbers below a bound.
-use Rattle.std.proofs.Common.{◌≡◌, ℕ, zero, suc, ◌+◌, ◌<◌, Bool, true, false, cond, ◌&&◌, ltb, List, [], ◌∷◌, length, get_or, Some, None, Option, sym, subst, refl, ap, ◌∙◌, inl, inr, arith, zero-add}
+use Rattle.std.proofs.Common.{◌≡◌, ℕ, zero, suc, ◌<◌, Bool, false, ◌&&◌, ltb, List, [], ◌∷◌, length, get_or, Some, None, sym, subst, refl, ap, ◌∙◌, inl, inr, arith, zero-add}
 use Rattle.std.specs.List.{list_all, range_with_len, position, position_or_len}
 use Rattle.std.proofs.lemmas.Bool.{cases_lt, lt-ltb, le-ltb, cond-true, cond-false}
 use Rattle.std.proofs.lemmas.List.FromFn.{length-range_with_len, get_or-range_with_len}

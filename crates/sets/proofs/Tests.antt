@@ -1,7 +1,7 @@
 -- Laws of the tests over the numbers below a bound: every one passes, some one passes, the lowest that passes.
-use Rattle.std.proofs.Common.{◌≡◌, ℕ, zero, suc, ◌+◌, ◌<◌, Bool, true, false, cond, Some, None, Option, sym, refl, ap, ◌⊎◌, ◌∙◌, subst, inl, inr, ⊎_elim, add-one, arith}
+use Rattle.std.proofs.Common.{◌≡◌, ℕ, zero, suc, ◌+◌, ◌<◌, Bool, true, false, Some, None, sym, refl, ap, ◌⊎◌, ◌∙◌, subst, inl, inr, ⊎_elim, add-one, arith}
 use Rattle.std.proofs.lemmas.Bool.{cases_Bool, cases_eq, true≢false, false≢true}
-use Rattle.sets.specs.Sets.{all_below, any_below, or_else, lowest}
+use Rattle.sets.specs.Sets.{all_below, any_below, lowest}
 
 -- a loop that begins: every number below 0 passes
 pub all_none : (p : ℕ → Bool) → all_below 0 p ≡ true
@@ -90,17 +90,17 @@ First n p = ((k : ℕ) → k < n → p k ≡ false) ⊎ ((i : ℕ) × (i < n) ×
 pub find_first : (n : ℕ) (p : ℕ → Bool) → First n p
 find_first zero p = inl (λ k l. absurd (omega arith))
 find_first (suc n) p = elim (find_first n p) [
-    | inr w ↦ inr (w.0, omega arith, w.2, w.3)
-    | inl none ↦
-        elim (cases_Bool (p n)) [
-          | inl t ↦ inr (n, omega arith, t, none)
-          | inr f ↦ inl (λ k l. ⊎_elim (λ e. ap p e ∙ f) (λ o. none k (omega arith)) (cases_eq k n))
-        ]
-  ]
+  | inr w ↦ inr (w.0, omega arith, w.2, w.3)
+  | inl none ↦
+      elim (cases_Bool (p n)) [
+        | inl t ↦ inr (n, omega arith, t, none)
+        | inr f ↦ inl (λ k l. ⊎_elim (λ e. ap p e ∙ f) (λ o. none k (omega arith)) (cases_eq k n))
+      ]
+]
 
 -- what the lowest says
 pub lowest_is : (n : ℕ) (p : ℕ → Bool) (i : ℕ) → lowest n p ≡ Some i → (i < n) × (p i ≡ true) × ((k : ℕ) → k < i → p k ≡ false)
 lowest_is n p i e = elim (find_first n p) [
-    | inl none ↦ let nothing = lowest_none n p none in absurd (cc)
-    | inr w ↦ let found = lowest_some n p w.0 w.1 w.2 w.3 in let same : w.0 ≡ i = cc in subst (λ (k : ℕ). (k < n) × (p k ≡ true) × ((j : ℕ) → j < k → p j ≡ false)) same (w.1, w.2, w.3)
-  ]
+  | inl none ↦ let nothing = lowest_none n p none in absurd (cc)
+  | inr w ↦ let found = lowest_some n p w.0 w.1 w.2 w.3 in let same : w.0 ≡ i = cc in subst (λ (k : ℕ). (k < n) × (p k ≡ true) × ((j : ℕ) → j < k → p j ≡ false)) same (w.1, w.2, w.3)
+]
