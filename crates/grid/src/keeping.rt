@@ -9,18 +9,14 @@ use crate::Grid;
 use fault::Refusal;
 use keeper::Keeper;
 use keeper::bounds::Bounds;
-use keeper::position::{Position, Sort};
+use keeper::position::Position;
 use std::alloc::{AllocError, Global};
 
 // The index of the cell of a position.
 fn cell_of(horizon: u16, at: Position) -> usize
     ensures { result ≡ cell_of horizon at }
 {
-    let sort = match at.sort {
-        Sort::List => 0,
-        Sort::Nomination => 1,
-    };
-    (usize::from(at.host) * 2 + sort) * usize::from(horizon) + usize::from(at.phase)
+    (usize::from(at.host) * 2 + at.sort as usize) * usize::from(horizon) + usize::from(at.phase)
 }
 
 impl Grid {
@@ -36,17 +32,6 @@ impl Grid {
             filled: 0,
         })
     }
-
-    // The number at a position.
-    fn find(&self, at: Position) -> Option<u32>
-        ensures { result ≡ (keeping_of self.now).held at }
-    {
-        if self.bounds.is_inside(at) {
-            self.cells[cell_of(self.bounds.horizon, at)]
-        } else {
-            None
-        }
-    }
 }
 
 impl Keeper for Grid {
@@ -54,30 +39,24 @@ impl Keeper for Grid {
 
     ghost sound = { Prim.search rules };
 
-    fn host_count(&self) -> u8 {
-        self.bounds.hosts
+    fn bounds(&self) -> Bounds {
+        self.bounds
     }
 
-    fn open_hosts(&self) -> u16 {
-        self.bounds.opened
-    }
-
-    fn horizon(&self) -> u16 {
-        self.bounds.horizon
+    fn number_at(&self, at: Position) -> Option<u32> {
+        if self.bounds.is_inside(at) {
+            self.cells[cell_of(self.bounds.horizon, at)]
+        } else {
+            None
+        }
     }
 
     fn held_count(&self) -> usize {
         self.filled
     }
 
-    fn is_genuine(&self, at: Position, number: u32) -> bool {
-        let held = self.find(at);
-        self.bounds.is_genuine(at, held, number)
-    }
-
     fn seal(&mut self, at: Position, number: u32) -> Result<(), Refusal> {
-        let held = self.find(at);
-        self.bounds.judge(at, held)?;
+        self.judge(at)?;
         let cell = cell_of(self.bounds.horizon, at);
         self.cells[cell] = Some(number);
         self.filled += 1;

@@ -4,7 +4,7 @@ use Rattle.std.proofs.lemmas.Bool.{cond-true}
 use Rattle.keeper.specs.Bounding.{kept}
 use Rattle.keeper.specs.Keeping.{is_inside, nothing}
 use Rattle.grid.proofs.Cells.{cell_below}
-use Rattle.grid.proofs.Grid.find.Goals as goal
+use Rattle.grid.proofs.keeping.GridKeeper.number_at.Goals as goal
 
 pub index-requires : goal.index-requires
 index-requires c =
