@@ -1,5 +1,5 @@
 -- What one more row does to what rows hold.
-use Rattle.std.proofs.Common.{◌≡◌, ℕ, Bool, true, false, cond, option_map, List, [], ◌∷◌, ◌++◌, Some, None, Ok, Option, sym, refl, ap, ◌∙◌, ⊎_elim}
+use Rattle.std.proofs.Common.{◌≡◌, ℕ, Bool, true, false, cond, option_map, List, [], ◌∷◌, ◌++◌, Some, None, Ok, Option, sym, refl, ap, ◌∙◌}
 use mathlib.Core.Path.{fun_ext}
 use Rattle.std.specs.List.{find}
 use Rattle.std.specs.Option.{option_or}
@@ -9,20 +9,23 @@ use Rattle.keeper.specs.Bounding.{kept}
 use Rattle.keeper.specs.Keeping.{same_position, with_number, sealing, sealed}
 use Rattle.std.proofs.lemmas.List.Folds.{find-append}
 use Rattle.keeper.proofs.Positions.{same_is}
-use Rattle.keeper.proofs.Sealings.{free, sealed_held, no_number}
+use Rattle.keeper.proofs.Sealings.{free, sealed_held}
 use Rattle.book.specs.declared.row.Row.{Row}
 use Rattle.book.specs.Rows.{found}
 
 -- a later row counts where no earlier one does
 or_later : (rs : List Row) (r : Row) (p : Position) → found (rs ++ r ∷ []) p ≡ option_or (found rs p) (found (r ∷ []) p)
-or_later rs r p = by (find at_p rs) (find at_p (r ∷ [])) (find-append at_p rs (r ∷ []))
+or_later rs r p = ap (option_map number_of) (find-append at_p rs (r ∷ [])) ∙ by (find at_p rs)
   where
     at_p : Row → Bool
     at_p x = same_position x.position p
 
-    by : (a b : Option Row) → find at_p (rs ++ r ∷ []) ≡ option_or a b → found (rs ++ r ∷ []) p ≡ option_or (option_map (λ (x : Row). x.number) a) (option_map (λ (x : Row). x.number) b)
-    by None b e = ap (option_map (λ (x : Row). x.number)) e
-    by (Some x) b e = ap (option_map (λ (x : Row). x.number)) e
+    number_of : Row → ℕ
+    number_of x = x.number
+
+    by : (o : Option Row) → option_map number_of (option_or o (find at_p (r ∷ []))) ≡ option_or (option_map number_of o) (found (r ∷ []) p)
+    by None = refl
+    by (Some x) = refl
 
 -- a row at a position where there was none gives the position its number
 found-push : (rs : List Row) (r : Row) → found rs r.position ≡ None → (p : Position) → found (rs ++ r ∷ []) p ≡ with_number (found rs) r.position r.number p
@@ -30,7 +33,7 @@ found-push rs r none p = or_later rs r p ∙ by (found rs p) (same_position r.po
   where
     by : (o : Option ℕ) (same : Bool) → (same ≡ true → o ≡ None) → option_or o (option_map (λ (x : Row). x.number) (cond same (Some r) None)) ≡ cond same (Some r.number) o
     by None true e = refl
-    by (Some x) true e = absurd (no_number x (sym (e refl)))
+    by (Some x) true e = let none = e refl in cc
     by None false e = refl
     by (Some x) false e = refl
 

@@ -12,7 +12,7 @@ use keeper::bounds::Bounds;
 use keeper::position::Position;
 use std::alloc::{AllocError, Global};
 
-// The index of the cell of a position.
+// The index of the cell of a position: one flat block is the form that is asked for.
 fn cell_of(horizon: u16, at: Position) -> usize
     ensures { result ≡ cell_of horizon at }
 {
@@ -44,6 +44,7 @@ impl Keeper for Grid {
     }
 
     fn number_at(&self, at: Position) -> Option<u32> {
+        // `then` would give an option of an option
         if self.bounds.is_inside(at) {
             self.cells[cell_of(self.bounds.horizon, at)]
         } else {

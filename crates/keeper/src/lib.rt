@@ -13,7 +13,7 @@ use position::Position;
 pub mod bounds;
 pub mod position;
 
-// A keeper, by what it means. No question alters it. A position and its number are passed apart, as the key and the value of a map are.
+// A keeper, by what it means. No question alters it. A position and its number are passed apart, as the key and the value of a map's insert are.
 pub trait Keeper {
     ghost keeping: { Self → Keeping };
 

@@ -18,7 +18,7 @@ pub struct Position {
 }
 
 impl Position {
-    // Whether both are the same position.
+    // Whether both are the same position: `==` answers so.
     pub fn is_same(&self, other: Position) -> bool
         ensures { result ≡ same_position self.now other }
     {

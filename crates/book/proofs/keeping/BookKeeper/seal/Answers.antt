@@ -1,9 +1,8 @@
-use Rattle.std.proofs.Common.{◌≡◌, ℕ, List, Ok, vec_items, Option, sym, ap, ◌∙◌, subst, arith}
+use Rattle.std.proofs.Common.{◌≡◌, vec_items, sym, ap, subst, arith}
 use Rattle.keeper.specs.Bounding.{kept}
-use Rattle.keeper.specs.Keeping.{AllFit, held_count, sealing, sealed}
+use Rattle.keeper.specs.Keeping.{AllFit, held_count, sealed}
 use Rattle.keeper.proofs.Counts.{count_more, count_below}
-use Rattle.keeper.proofs.Sealings.{sealed_fits, sealed_refused}
-use Rattle.book.specs.declared.row.Row.{Row}
+use Rattle.keeper.proofs.Sealings.{sealed_fits}
 use Rattle.book.specs.Books.{keeping_of}
 use Rattle.book.specs.Rows.{found}
 use Rattle.book.proofs.Rows.{sealed_rows}
@@ -14,8 +13,7 @@ use Rattle.book.proofs.keeping.BookKeeper.seal.Goals.{After-push_reserved}
 after : (c : goal.After-push_reserved) → kept c.args.self.now.bounds (found (vec_items c.push_reserved.new.self)) ≡ sealed (keeping_of c.args.self.now) c.args.at c.args.number
 after c =
     let s = c.args.self.now in
-    ap (λ (rs : List Row). kept s.bounds (found rs)) c.push_reserved.ensures.items
-    ∙ sealed_rows s.bounds (vec_items s.rows) (record { position = c.args.at; number = c.args.number }) c.in_ok-judge.ensures
+    rw c.push_reserved.ensures.items (sealed_rows s.bounds (vec_items s.rows) (record { position = c.args.at; number = c.args.number }) c.in_ok-judge.ensures)
 
 pub push_reserved-requires : goal.push_reserved-requires
 push_reserved-requires c =
@@ -34,5 +32,5 @@ invariant_of-self c =
       roomy = omega (arith, e.capacity, s.roomy);
     }
 
-pub returns : goal.returns
-returns c = record { answer = c.in_ok-judge.ensures; after = after (goal.at.returns c).After-push_reserved }
+pub returns-clause-after : goal.returns-clause-after
+returns-clause-after c = after (goal.at.returns-clause-after c).After-push_reserved

@@ -1,7 +1,7 @@
-use Rattle.std.proofs.Common.{◌≡◌, ℕ, ◌*◌, set, Some, Ok, vec_items, Option, sym, ap, ◌∙◌, subst, arith}
+use Rattle.std.proofs.Common.{◌≡◌, ◌*◌, set, Some, vec_items, sym, ap, subst, arith}
 use Rattle.std.proofs.lemmas.Nat.{mul-le}
 use Rattle.keeper.specs.Bounding.{kept}
-use Rattle.keeper.specs.Keeping.{AllFit, held_count, sealing, sealed}
+use Rattle.keeper.specs.Keeping.{AllFit, held_count, sealed}
 use Rattle.keeper.proofs.Counts.{count_more, count_below}
 use Rattle.keeper.proofs.Sealings.{free, free_inside, sealed_fits}
 use Rattle.grid.specs.Cells.{in_cells}
@@ -14,10 +14,7 @@ use Rattle.grid.proofs.keeping.GridKeeper.seal.Goals.{After-cell_of-cell}
 after : (c : goal.After-cell_of-cell) → kept c.args.self.now.bounds (in_cells c.args.self.now.bounds (set (vec_items c.args.self.now.cells) c.cell_of-cell.result (Some c.args.number))) ≡ sealed (keeping_of c.args.self.now) c.args.at c.args.number
 after c =
     let s = c.args.self.now in
-    let b = s.bounds in
-    let cells = vec_items s.cells in
-    ap (λ (i : ℕ). kept b (in_cells b (set cells i (Some c.args.number)))) c.cell_of-cell.ensures
-    ∙ sealed_cells b cells c.args.at c.args.number (omega (arith, s.cells.ok.0, s.sized)) c.in_ok-judge.ensures
+    rw c.cell_of-cell.ensures (sealed_cells s.bounds (vec_items s.cells) c.args.at c.args.number (omega (arith, s.cells.ok.0, s.sized)) c.in_ok-judge.ensures)
 
 pub index_mut-requires : goal.index_mut-requires
 index_mut-requires c =
@@ -44,5 +41,5 @@ invariant_of-self c =
       counted = omega (arith, s.counted, more, ap held_count new);
     }
 
-pub returns : goal.returns
-returns c = record { answer = c.in_ok-judge.ensures; after = after (goal.at.returns c).After-cell_of-cell }
+pub returns-clause-after : goal.returns-clause-after
+returns-clause-after c = after (goal.at.returns-clause-after c).After-cell_of-cell
