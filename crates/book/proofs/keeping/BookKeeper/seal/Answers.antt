@@ -2,7 +2,7 @@ use Rattle.std.proofs.Common.{◌≡◌, vec_items, sym, ap, subst, arith}
 use Rattle.keeper.specs.Bounding.{kept}
 use Rattle.keeper.specs.Keeping.{AllFit, held_count, sealed}
 use Rattle.keeper.proofs.Counts.{count_more, count_below}
-use Rattle.keeper.proofs.Sealings.{sealed_fits}
+use Rattle.keeper.proofs.Sealings.{sealed_fits, sealed_refused}
 use Rattle.book.specs.Books.{keeping_of}
 use Rattle.book.specs.Rows.{found}
 use Rattle.book.proofs.Rows.{sealed_rows}
@@ -14,6 +14,10 @@ after : (c : goal.After-push_reserved) → kept c.args.self.now.bounds (found (v
 after c =
     let s = c.args.self.now in
     rw c.push_reserved.ensures.items (sealed_rows s.bounds (vec_items s.rows) (record { position = c.args.at; number = c.args.number }) c.in_ok-judge.ensures)
+
+-- a refused sealing leaves the book as it was
+pub returns-in_err-judge-clause-after : goal.returns-in_err-judge-clause-after
+returns-in_err-judge-clause-after c = sealed_refused (keeping_of c.args.self.now) c.args.at c.args.number _ c.in_err-judge.ensures
 
 pub push_reserved-requires : goal.push_reserved-requires
 push_reserved-requires c =

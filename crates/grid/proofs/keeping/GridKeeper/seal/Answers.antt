@@ -3,7 +3,7 @@ use Rattle.std.proofs.lemmas.Nat.{mul-le}
 use Rattle.keeper.specs.Bounding.{kept}
 use Rattle.keeper.specs.Keeping.{AllFit, held_count, sealed}
 use Rattle.keeper.proofs.Counts.{count_more, count_below}
-use Rattle.keeper.proofs.Sealings.{free, free_inside, sealed_fits}
+use Rattle.keeper.proofs.Sealings.{free, free_inside, sealed_fits, sealed_refused}
 use Rattle.grid.specs.Cells.{in_cells}
 use Rattle.grid.specs.Grids.{keeping_of}
 use Rattle.grid.proofs.Cells.{cell_below, sealed_cells}
@@ -15,6 +15,10 @@ after : (c : goal.After-cell_of-cell) → kept c.args.self.now.bounds (in_cells 
 after c =
     let s = c.args.self.now in
     rw c.cell_of-cell.ensures (sealed_cells s.bounds (vec_items s.cells) c.args.at c.args.number (omega (arith, s.cells.ok.0, s.sized)) c.in_ok-judge.ensures)
+
+-- a refused sealing leaves the grid as it was
+pub returns-in_err-judge-clause-after : goal.returns-in_err-judge-clause-after
+returns-in_err-judge-clause-after c = sealed_refused (keeping_of c.args.self.now) c.args.at c.args.number _ c.in_err-judge.ensures
 
 pub index_mut-requires : goal.index_mut-requires
 index_mut-requires c =
