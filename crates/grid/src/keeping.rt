@@ -12,13 +12,6 @@ use keeper::bounds::Bounds;
 use keeper::position::Position;
 use std::alloc::{AllocError, Global};
 
-// The index of the cell of a position: one flat block is the form that is asked for.
-fn cell_of(horizon: u16, at: Position) -> usize
-    ensures { result ≡ cell_of horizon at }
-{
-    (usize::from(at.host) * 2 + at.sort as usize) * usize::from(horizon) + usize::from(at.phase)
-}
-
 impl Grid {
     // An empty grid for n hosts, some of them open, of so many cells. Memory is asked for only as many as can be filled.
     pub fn new(heap: Global, n: u8, opened: u16, cells: usize) -> Result<Grid, AllocError>
@@ -31,6 +24,14 @@ impl Grid {
             cells,
             filled: 0,
         })
+    }
+
+    // The index of the cell of a position: one flat block is the form that is asked for.
+    fn cell_of(&self, at: Position) -> usize
+        ensures { result ≡ cell_of self.now.bounds.horizon at }
+    {
+        let row = usize::from(at.host) * 2 + at.sort as usize;
+        row * usize::from(self.bounds.horizon) + usize::from(at.phase)
     }
 }
 
@@ -46,7 +47,7 @@ impl Keeper for Grid {
     fn number_at(&self, at: Position) -> Option<u32> {
         // `then` would give an option of an option
         if self.bounds.is_inside(at) {
-            self.cells[cell_of(self.bounds.horizon, at)]
+            self.cells[self.cell_of(at)]
         } else {
             None
         }
@@ -58,7 +59,7 @@ impl Keeper for Grid {
 
     fn seal(&mut self, at: Position, number: u32) -> Result<(), Refusal> {
         self.judge(at)?;
-        let cell = cell_of(self.bounds.horizon, at);
+        let cell = self.cell_of(at);
         self.cells[cell] = Some(number);
         self.filled += 1;
         Ok(())

@@ -1,5 +1,5 @@
 -- How many numbers are held: none at first, one more with each sealing, and never more than there are positions.
-use Rattle.std.proofs.Common.{◌≡◌, ℕ, ◌+◌, ◌*◌, ◌<◌, ◌≤◌, cond, ◌≢◌, [], ◌∷◌, is_some, Some, None, Ok, Option, sym, refl, ap, ◌∙◌, subst, ⊎_elim, arith}
+use Rattle.std.proofs.Common.{◌≡◌, ℕ, ◌+◌, ◌*◌, ◌^◌, ◌<◌, ◌≤◌, cond, ◌≢◌, [], ◌∷◌, is_some, Some, None, Ok, Option, sym, refl, ap, ◌∙◌, subst, ⊎_elim, arith}
 use Rattle.std.proofs.lemmas.Bool.{cases_Bool}
 use Rattle.std.proofs.lemmas.Bool.Decides.{nat_tests}
 use Rattle.fault.proofs.Accepted.{accepted}
@@ -8,10 +8,10 @@ use Rattle.sets.proofs.Sums.{sum_cong, sum_more, sum_le, sum_none}
 use Rattle.keeper.specs.declared.position.Sort.{Sort}
 use Rattle.keeper.specs.declared.position.Sort.TheVariants.{List, Nomination}
 use Rattle.keeper.specs.declared.position.Position.{Position}
-use Rattle.keeper.specs.Keeping.{Keeping, Map, position, seal_fault, sealing, sealed, with_number, held_count, empty}
+use Rattle.keeper.specs.Keeping.{Keeping, Map, position, seal_fault, sealing, sealed, with_number, held_count, empty, AllFit}
 use Rattle.keeper.specs.Seals.{Sealings, sealed_all, accepted_in, Counted}
 use Rattle.keeper.proofs.Positions.{same_not, with_here, with_other}
-use Rattle.keeper.proofs.Sealings.{free, sealed_held, sealed_not}
+use Rattle.keeper.proofs.Sealings.{free, sealed_held, sealed_not, sealed_fits}
 
 -- 1 for one number
 abbrev one : Option ℕ → ℕ
@@ -73,6 +73,10 @@ count_more k at x e =
     ∙ sum_more k.hosts (of_host k.held k.horizon) (of_host (with_number k.held at x) k.horizon) at.host f.host
     (host_more k.held at x k.horizon f.none f.phase)
     (λ h other. host_same k.held at x k.horizon h other)
+
+-- what a keeper that stores its numbers has to show of an accepted sealing: all fits, and one number more is held
+pub one_more : (k l : Keeping) (at : Position) (x : ℕ) → Ok tt ≡ sealing k at → l ≡ sealed k at x → x < 2 ^ 32 → AllFit k → AllFit l × (held_count l ≡ held_count k + 1)
+one_more k l at x ok is small all = (subst AllFit (sym is) (sealed_fits k at x small all), ap held_count is ∙ count_more k at x ok)
 
 -- there is at most one number at each position
 count_le : (k : Keeping) → held_count k ≤ 2 * k.hosts * k.horizon

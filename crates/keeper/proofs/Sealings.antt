@@ -50,8 +50,8 @@ sealed_refused k at x f e = by (seal_fault k at) e
     by (Some r) e = refl
 
 -- a position where a number can be sealed is inside
-pub free_inside : (k : Keeping) (at : Position) → Free k at → is_inside k at ≡ true
-free_inside k at f = grind (arith, nat_tests)
+pub free_inside : (k : Keeping) (at : Position) → Ok tt ≡ sealing k at → is_inside k at ≡ true
+free_inside k at e = let f = free k at e in grind (arith, nat_tests)
 
 -- a sealing that put its number at a position
 pub record New (k : Keeping) (at : Position) (x : ℕ) (p : Position) : Type 0 where
@@ -67,12 +67,11 @@ sealed_at k at x p = ⊎_elim
     (λ no. inl (ap (λ (m : Map). m p) (cond-true (is_some (seal_fault k at)) k.held _ no)))
     (λ yes.
     let ok = accepted tt (seal_fault k at) yes in
-    let f = free k at ok in
     let new = ap (λ (m : Map). m p) (sealed_held k at x ok) in
     ⊎_elim
     (λ e.
     let q = same_is at p e in
-    inr (record { ok = ok; here = q; inside = sym (ap (is_inside k) q) ∙ free_inside k at f; none = sym (ap k.held q) ∙ f.none; now = new ∙ cond-true (same_position at p) (Some x) _ e }))
+    inr (record { ok = ok; here = q; inside = sym (ap (is_inside k) q) ∙ free_inside k at ok; none = sym (ap k.held q) ∙ (free k at ok).none; now = new ∙ cond-true (same_position at p) (Some x) _ e }))
     (λ e. inl (new ∙ with_other k.held at x p e))
     (cases_Bool (same_position at p)))
     (cases_Bool (is_some (seal_fault k at)))

@@ -68,7 +68,7 @@ impl fmt::Display for Measured {
 }
 
 // The same, with the times.
-#[derive(Clone, Copy)]
+#[derive(Drop)]
 struct Timed(Measured);
 
 impl fmt::Display for Timed {
@@ -101,23 +101,24 @@ fn measure<K: Keeper>(
     Ok(Measured { name, seal, ask })
 }
 
-// Measures a book and a grid with so many positions.
-fn measure_both(rt: &HostRuntime, positions: u32) -> io::Result<(Measured, Measured)> {
+fn measure_book(rt: &HostRuntime, positions: u32) -> io::Result<Measured> {
     let mut book = Book::new(rt.alloc(), 16, 0, positions as usize)?;
-    let on_book = measure(rt, "book", &mut book, positions)?;
+    measure(rt, "book", &mut book, positions)
+}
+
+fn measure_grid(rt: &HostRuntime, positions: u32) -> io::Result<Measured> {
     let mut grid = Grid::new(rt.alloc(), 16, 0, positions as usize)?;
-    let on_grid = measure(rt, "grid", &mut grid, positions)?;
-    Ok((on_book, on_grid))
+    measure(rt, "grid", &mut grid, positions)
 }
 
 fn main(rt: HostRuntime) -> io::Result<()> {
     if env::args(&rt)?.count() <= 1 {
-        let (book, grid) = measure_both(&rt, 2048)?;
-        return println!(rt; "{book}\n{grid}");
+        println!(rt; "{}", measure_book(&rt, 2048)?)?;
+        return println!(rt; "{}", measure_grid(&rt, 2048)?);
     }
     for positions in [2048, 8192, 65536] {
-        let (book, grid) = measure_both(&rt, positions)?;
-        println!(rt; "{}\n{}", Timed(book), Timed(grid))?;
+        println!(rt; "{}", Timed(measure_book(&rt, positions)?))?;
+        println!(rt; "{}", Timed(measure_grid(&rt, positions)?))?;
     }
     Ok(())
 }

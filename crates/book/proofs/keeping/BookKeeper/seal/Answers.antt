@@ -1,8 +1,8 @@
-use Rattle.std.proofs.Common.{◌≡◌, vec_items, sym, ap, subst, arith}
+use Rattle.std.proofs.Common.{◌≡◌, vec_items, arith}
 use Rattle.keeper.specs.Bounding.{kept}
-use Rattle.keeper.specs.Keeping.{AllFit, held_count, sealed}
-use Rattle.keeper.proofs.Counts.{count_more, count_below}
-use Rattle.keeper.proofs.Sealings.{sealed_fits, sealed_refused}
+use Rattle.keeper.specs.Keeping.{sealed}
+use Rattle.keeper.proofs.Counts.{one_more, count_below}
+use Rattle.keeper.proofs.Sealings.{sealed_refused}
 use Rattle.book.specs.Books.{keeping_of}
 use Rattle.book.specs.Rows.{found}
 use Rattle.book.proofs.Rows.{sealed_rows}
@@ -28,11 +28,10 @@ pub invariant_of-self : goal.invariant_of-self
 invariant_of-self c =
     let s = c.args.self.now in
     let e = c.push_reserved.ensures in
-    let new = after (goal.at.invariant_of-self c).After-push_reserved in
-    let more = count_more (keeping_of s) c.args.at c.args.number c.in_ok-judge.ensures in
+    let more = one_more (keeping_of s) _ c.args.at c.args.number c.in_ok-judge.ensures (after (goal.at.invariant_of-self c).After-push_reserved) c.ranges.number.fits s.inside in
     record {
-      inside = subst AllFit (sym new) (sealed_fits (keeping_of s) c.args.at c.args.number c.ranges.number.fits s.inside);
-      counted = omega (arith, e.len, s.counted, more, ap held_count new);
+      inside = more.0;
+      counted = omega (arith, e.len, s.counted, more.1);
       roomy = omega (arith, e.capacity, s.roomy);
     }
 

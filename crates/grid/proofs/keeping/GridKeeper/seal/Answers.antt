@@ -1,9 +1,9 @@
-use Rattle.std.proofs.Common.{◌≡◌, ◌*◌, set, Some, vec_items, sym, ap, subst, arith}
+use Rattle.std.proofs.Common.{◌≡◌, ◌*◌, set, Some, vec_items, arith}
 use Rattle.std.proofs.lemmas.Nat.{mul-le}
 use Rattle.keeper.specs.Bounding.{kept}
-use Rattle.keeper.specs.Keeping.{AllFit, held_count, sealed}
-use Rattle.keeper.proofs.Counts.{count_more, count_below}
-use Rattle.keeper.proofs.Sealings.{free, free_inside, sealed_fits, sealed_refused}
+use Rattle.keeper.specs.Keeping.{sealed}
+use Rattle.keeper.proofs.Counts.{one_more, count_below}
+use Rattle.keeper.proofs.Sealings.{free_inside, sealed_refused}
 use Rattle.grid.specs.Cells.{in_cells}
 use Rattle.grid.specs.Grids.{keeping_of}
 use Rattle.grid.proofs.Cells.{cell_below, sealed_cells}
@@ -23,9 +23,7 @@ returns-in_err-judge-clause-after c = sealed_refused (keeping_of c.args.self.now
 pub index_mut-requires : goal.index_mut-requires
 index_mut-requires c =
     let s = c.args.self.now in
-    let k = keeping_of s in
-    let inside = free_inside k c.args.at (free k c.args.at c.in_ok-judge.ensures) in
-    omega (arith, c.cell_of-cell.ensures, s.sized, cell_below s.bounds c.args.at inside)
+    omega (arith, c.cell_of-cell.ensures, s.sized, cell_below s.bounds c.args.at (free_inside (keeping_of s) c.args.at c.in_ok-judge.ensures))
 
 pub overflow_add-self : goal.overflow_add-self
 overflow_add-self c =
@@ -37,12 +35,11 @@ overflow_add-self c =
 pub invariant_of-self : goal.invariant_of-self
 invariant_of-self c =
     let s = c.args.self.now in
-    let new = after (goal.at.invariant_of-self c).After-cell_of-cell in
-    let more = count_more (keeping_of s) c.args.at c.args.number c.in_ok-judge.ensures in
+    let more = one_more (keeping_of s) _ c.args.at c.args.number c.in_ok-judge.ensures (after (goal.at.invariant_of-self c).After-cell_of-cell) c.ranges.number.fits s.inside in
     record {
-      inside = subst AllFit (sym new) (sealed_fits (keeping_of s) c.args.at c.args.number c.ranges.number.fits s.inside);
+      inside = more.0;
       sized = s.sized;
-      counted = omega (arith, s.counted, more, ap held_count new);
+      counted = omega (arith, s.counted, more.1);
     }
 
 pub returns-clause-after : goal.returns-clause-after
