@@ -5,7 +5,7 @@ ghost use Rattle.book.specs.Books.{keeping_of};
 ghost use Rattle.std.proofs.Common.{rules};
 
 use crate::Book;
-use crate::row::{Row, find};
+use crate::row::Row;
 use fault::Refusal;
 use keeper::Keeper;
 use keeper::bounds::Bounds;
@@ -28,35 +28,27 @@ impl Keeper for Book {
 
     ghost sound = { Prim.search rules };
 
-    fn host_count(&self) -> u8 {
-        self.bounds.hosts
+    fn bounds(&self) -> Bounds {
+        self.bounds
     }
 
-    fn open_hosts(&self) -> u16 {
-        self.bounds.opened
-    }
-
-    fn horizon(&self) -> u16 {
-        self.bounds.horizon
+    fn number_at(&self, at: Position) -> Option<u32> {
+        self.rows
+            .iter()
+            .find(|row| row.position == at)
+            .map(|row| row.number)
     }
 
     fn held_count(&self) -> usize {
         self.rows.len()
     }
 
-    fn is_genuine(&self, at: Position, number: u32) -> bool {
-        let held = find(&self.rows, at);
-        self.bounds.is_genuine(at, held, number)
-    }
-
     fn seal(&mut self, at: Position, number: u32) -> Result<(), Refusal> {
-        let held = find(&self.rows, at);
-        self.bounds.judge(at, held)?;
-        let row = Row {
+        self.judge(at)?;
+        self.rows.push_reserved(Row {
             position: at,
             number,
-        };
-        self.rows.push_reserved(row);
+        });
         Ok(())
     }
 }

@@ -1,4 +1,4 @@
-// The book: a keeper with its numbers as rows, in the order in which they were sealed.
+// The book: a keeper with its numbers as rows, in the order in which they were sealed. No map: rows to be looked through are the form that is asked for.
 #![tactic(auto)]
 
 ghost use Rattle.std.specs.Prelude.{◌≡◌, ◌≤◌, vec_len, vec_capacity};

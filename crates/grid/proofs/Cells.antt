@@ -1,9 +1,9 @@
 -- Each position has a cell of its own, and what filling one does to what the cells hold.
-use Rattle.std.proofs.Common.{◌≡◌, ℕ, ◌+◌, ◌*◌, ◌/◌, ◌%◌, ◌<◌, ◌≤◌, true, ltb, ◌≢◌, List, length, set, replicate, Some, None, Ok, Option, sym, refl, ap, ◌∙◌, ⊎_elim, arith, get_or-set_other, get_or-set_same}
+use Rattle.std.proofs.Common.{◌≡◌, ℕ, ◌+◌, ◌*◌, ◌/◌, ◌%◌, ◌<◌, ◌≤◌, Bool, true, false, cond, ltb, get_or, List, length, set, replicate, Some, None, Ok, Option, sym, refl, ap, ◌∙◌, arith, get_or-set_other, get_or-set_same}
 use mathlib.Core.Path.{fun_ext}
 use lib.Arith.{digits_lt, digits_div, digits_mod}
 use Rattle.std.proofs.lemmas.List.{get_or-replicate}
-use Rattle.std.proofs.lemmas.Bool.{cases_Bool, cond-true, cond-false, ltb-true, and_parts, true≢false}
+use Rattle.std.proofs.lemmas.Bool.{ltb-true, and_parts, true≢false}
 use Rattle.keeper.specs.declared.bounds.Bounds.{Bounds}
 use Rattle.keeper.specs.declared.position.Sort.{Sort}
 use Rattle.keeper.specs.declared.position.Sort.TheVariants.{List as Listed, Nomination}
@@ -11,7 +11,7 @@ use Rattle.keeper.specs.declared.position.Position.{Position}
 use Rattle.keeper.specs.Bounding.{kept, positions}
 use Rattle.keeper.specs.Keeping.{is_inside, nothing, same_position, with_number, sealing, sealed}
 use Rattle.keeper.proofs.Positions.{same_is, same_itself}
-use Rattle.keeper.proofs.Sealings.{free, free_inside, sealed_held}
+use Rattle.keeper.proofs.Sealings.{free_inside, sealed_held}
 use Rattle.grid.specs.Cells.{sort_index, cell_of, in_cells}
 
 -- the index of a sort is 0 or 1
@@ -52,28 +52,27 @@ cell_one top at p la lp e =
 
 -- filling the cell of a position gives the position its number
 cells_set : (b : Bounds) (cells : List (Option ℕ)) (at : Position) (x : ℕ) → positions b ≤ length cells → is_inside (kept b nothing) at ≡ true → (p : Position) → in_cells b (set cells (cell_of b.horizon at) (Some x)) p ≡ with_number (in_cells b cells) at x p
-cells_set b cells at x long i p = ⊎_elim
-    (λ own.
-    let q = same_is at p own in
-    let room : cell_of b.horizon at < length cells = omega (arith, cell_below b at i) in
-    sym (ap (in_cells b (set cells (cell_of b.horizon at) (Some x))) q) ∙ cond-true (is_inside (kept b nothing) at) _ None i ∙ get_or-set_same cells (cell_of b.horizon at) (Some x) None room ∙ sym (cond-true (same_position at p) (Some x) _ own))
-    (λ other. ⊎_elim
-    (λ in_p.
-    let apart : cell_of b.horizon p ≢ cell_of b.horizon at = λ e. true≢false (sym (same_itself at) ∙ ap (same_position at) (cell_one b.horizon at p (inside_is b at i).1 (inside_is b p in_p).1 (sym e)) ∙ other) in
-    cond-true (is_inside (kept b nothing) p) _ None in_p ∙ get_or-set_other cells (cell_of b.horizon at) (cell_of b.horizon p) (Some x) None apart ∙ sym (cond-true (is_inside (kept b nothing) p) _ None in_p) ∙ sym (cond-false (same_position at p) (Some x) _ other))
-    (λ out. cond-false (is_inside (kept b nothing) p) _ None out ∙ sym (cond-false (is_inside (kept b nothing) p) _ None out) ∙ sym (cond-false (same_position at p) (Some x) _ other))
-    (cases_Bool (is_inside (kept b nothing) p)))
-    (cases_Bool (same_position at p))
+cells_set b cells at x long i p = by (same_position at p) (is_inside (kept b nothing) p) refl refl
+  where
+    cell : Position → ℕ
+    cell = cell_of b.horizon
+
+    by : (same in_p : Bool) → same_position at p ≡ same → is_inside (kept b nothing) p ≡ in_p → cond in_p (get_or (set cells (cell at) (Some x)) (cell p) None) None ≡ cond same (Some x) (cond in_p (get_or cells (cell p) None) None)
+    by true true own here = rw (← same_is at p own) (get_or-set_same cells (cell at) (Some x) None (omega (arith, cell_below b at i)))
+    by true false own out = absurd (true≢false (sym i ∙ ap (is_inside (kept b nothing)) (same_is at p own) ∙ out))
+    by false true other here = get_or-set_other cells (cell at) (cell p) (Some x) None (λ e. true≢false (sym (same_itself at) ∙ ap (same_position at) (cell_one b.horizon at p (inside_is b at i).1 (inside_is b p here).1 (sym e)) ∙ other))
+    by false false other out = refl
 
 -- the keeper with the cell filled is the keeper after the sealing
 pub sealed_cells : (b : Bounds) (cells : List (Option ℕ)) (at : Position) (x : ℕ) → positions b ≤ length cells → Ok tt ≡ sealing (kept b (in_cells b cells)) at → kept b (in_cells b (set cells (cell_of b.horizon at) (Some x))) ≡ sealed (kept b (in_cells b cells)) at x
 sealed_cells b cells at x long ok =
     let k = kept b (in_cells b cells) in
-    ap (kept b) (fun_ext (cells_set b cells at x long (free_inside k at (free k at ok))) ∙ sym (sealed_held k at x ok))
+    ap (kept b) (fun_ext (cells_set b cells at x long (free_inside k at ok)) ∙ sym (sealed_held k at x ok))
 
 -- cells that hold nothing
 pub cells_none : (b : Bounds) (n : ℕ) → positions b ≤ n → in_cells b (replicate n None) ≡ nothing
-cells_none b n long = fun_ext (λ p. ⊎_elim
-    (λ i. cond-true (is_inside (kept b nothing) p) _ None i ∙ get_or-replicate n (cell_of b.horizon p) None None (omega (arith, cell_below b p i)))
-    (λ out. cond-false (is_inside (kept b nothing) p) _ None out)
-    (cases_Bool (is_inside (kept b nothing) p)))
+cells_none b n long = fun_ext (λ p. by p (is_inside (kept b nothing) p) refl)
+  where
+    by : (p : Position) (in_p : Bool) → is_inside (kept b nothing) p ≡ in_p → cond in_p (get_or {A = Option ℕ} (replicate n None) (cell_of b.horizon p) None) None ≡ None
+    by p true here = get_or-replicate n (cell_of b.horizon p) None None (omega (arith, cell_below b p here))
+    by p false out = refl

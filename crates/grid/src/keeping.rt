@@ -9,19 +9,8 @@ use crate::Grid;
 use fault::Refusal;
 use keeper::Keeper;
 use keeper::bounds::Bounds;
-use keeper::position::{Position, Sort};
+use keeper::position::Position;
 use std::alloc::{AllocError, Global};
-
-// The index of the cell of a position.
-fn cell_of(horizon: u16, at: Position) -> usize
-    ensures { result ≡ cell_of horizon at }
-{
-    let sort = match at.sort {
-        Sort::List => 0,
-        Sort::Nomination => 1,
-    };
-    (usize::from(at.host) * 2 + sort) * usize::from(horizon) + usize::from(at.phase)
-}
 
 impl Grid {
     // An empty grid for n hosts, some of them open, of so many cells. Memory is asked for only as many as can be filled.
@@ -37,15 +26,12 @@ impl Grid {
         })
     }
 
-    // The number at a position.
-    fn find(&self, at: Position) -> Option<u32>
-        ensures { result ≡ (keeping_of self.now).held at }
+    // The index of the cell of a position: one flat block is the form that is asked for.
+    fn cell_of(&self, at: Position) -> usize
+        ensures { result ≡ cell_of self.now.bounds.horizon at }
     {
-        if self.bounds.is_inside(at) {
-            self.cells[cell_of(self.bounds.horizon, at)]
-        } else {
-            None
-        }
+        let row = usize::from(at.host) * 2 + at.sort as usize;
+        row * usize::from(self.bounds.horizon) + usize::from(at.phase)
     }
 }
 
@@ -54,31 +40,26 @@ impl Keeper for Grid {
 
     ghost sound = { Prim.search rules };
 
-    fn host_count(&self) -> u8 {
-        self.bounds.hosts
+    fn bounds(&self) -> Bounds {
+        self.bounds
     }
 
-    fn open_hosts(&self) -> u16 {
-        self.bounds.opened
-    }
-
-    fn horizon(&self) -> u16 {
-        self.bounds.horizon
+    fn number_at(&self, at: Position) -> Option<u32> {
+        // `then` would give an option of an option
+        if self.bounds.is_inside(at) {
+            self.cells[self.cell_of(at)]
+        } else {
+            None
+        }
     }
 
     fn held_count(&self) -> usize {
         self.filled
     }
 
-    fn is_genuine(&self, at: Position, number: u32) -> bool {
-        let held = self.find(at);
-        self.bounds.is_genuine(at, held, number)
-    }
-
     fn seal(&mut self, at: Position, number: u32) -> Result<(), Refusal> {
-        let held = self.find(at);
-        self.bounds.judge(at, held)?;
-        let cell = cell_of(self.bounds.horizon, at);
+        self.judge(at)?;
+        let cell = self.cell_of(at);
         self.cells[cell] = Some(number);
         self.filled += 1;
         Ok(())

@@ -10,7 +10,7 @@ use keeper::bounds::Bounds;
 
 mod keeping;
 
-// There are as many cells as positions, and `filled` of them hold a number.
+// There are as many cells as positions, and `filled` of them hold a number. It is counted along: to count them at each question is to look at every cell.
 #[derive(Drop)]
 pub struct Grid {
     bounds: Bounds,

@@ -1,16 +1,17 @@
 -- How many numbers are held: none at first, one more with each sealing, and never more than there are positions.
-use Rattle.std.proofs.Common.{◌≡◌, ℕ, ◌+◌, ◌*◌, ◌<◌, ◌≤◌, cond, ◌≢◌, [], ◌∷◌, is_some, Some, None, Ok, Option, sym, refl, ap, ◌∙◌, subst, ⊎_elim, true≢false, mul_assoc, mul_comm, arith}
-use Rattle.std.proofs.lemmas.Bool.{cases_Bool, cond-true, cond-false}
+use Rattle.std.proofs.Common.{◌≡◌, ℕ, ◌+◌, ◌*◌, ◌^◌, ◌<◌, ◌≤◌, cond, ◌≢◌, [], ◌∷◌, is_some, Some, None, Ok, Option, sym, refl, ap, ◌∙◌, subst, ⊎_elim, arith}
+use Rattle.std.proofs.lemmas.Bool.{cases_Bool}
+use Rattle.std.proofs.lemmas.Bool.Decides.{nat_tests}
 use Rattle.fault.proofs.Accepted.{accepted}
 use Rattle.sets.specs.Sets.{sum_below}
 use Rattle.sets.proofs.Sums.{sum_cong, sum_more, sum_le, sum_none}
 use Rattle.keeper.specs.declared.position.Sort.{Sort}
 use Rattle.keeper.specs.declared.position.Sort.TheVariants.{List, Nomination}
 use Rattle.keeper.specs.declared.position.Position.{Position}
-use Rattle.keeper.specs.Keeping.{Keeping, Map, position, seal_fault, sealing, sealed, with_number, same_sort, held_count, empty}
+use Rattle.keeper.specs.Keeping.{Keeping, Map, position, seal_fault, sealing, sealed, with_number, held_count, empty, AllFit}
 use Rattle.keeper.specs.Seals.{Sealings, sealed_all, accepted_in, Counted}
 use Rattle.keeper.proofs.Positions.{same_not, with_here, with_other}
-use Rattle.keeper.proofs.Sealings.{free, sealed_held, sealed_not}
+use Rattle.keeper.proofs.Sealings.{free, sealed_held, sealed_not, sealed_fits}
 
 -- 1 for one number
 abbrev one : Option ℕ → ℕ
@@ -39,10 +40,6 @@ phases_more m at x top none l = sum_more top (bit m at.host at.sort) (bit (with_
 phases_same : (m : Map) (at : Position) (x top h : ℕ) (s : Sort) → ((p : ℕ) → at ≢ position h s p) → sum_below top (bit (with_number m at x) h s) ≡ sum_below top (bit m h s)
 phases_same m at x top h s apart = sum_cong top (bit (with_number m at x) h s) (bit m h s) (λ p _. bit_other m at x h s p (apart p))
 
--- the two sorts are two
-sorts_apart : List ≢ Nomination
-sorts_apart e = absurd (true≢false (ap (λ (s : Sort). same_sort List s) e))
-
 -- the numbers of one host
 abbrev of_host : Map → ℕ → ℕ → ℕ
 of_host m top h = sum_below top (bit m h List) + sum_below top (bit m h Nomination)
@@ -58,8 +55,8 @@ host_more m at x top none l = by at.sort refl
     same s t e apart = phases_same m at x top at.host t (λ p q. apart (sym e ∙ ap (λ (o : Position). o.sort) q))
 
     by : (s : Sort) → at.sort ≡ s → of_host (with_number m at x) top at.host ≡ of_host m top at.host + 1
-    by List e = omega (arith, more List e, same List Nomination e sorts_apart)
-    by Nomination e = omega (arith, more Nomination e, same Nomination List e (λ q. sorts_apart (sym q)))
+    by List e = omega (arith, more List e, same List Nomination e (λ q. cc))
+    by Nomination e = omega (arith, more Nomination e, same Nomination List e (λ q. cc))
 
 -- another host has as many as before
 host_same : (m : Map) (at : Position) (x top h : ℕ) → h ≢ at.host → of_host (with_number m at x) top h ≡ of_host m top h
@@ -77,6 +74,10 @@ count_more k at x e =
     (host_more k.held at x k.horizon f.none f.phase)
     (λ h other. host_same k.held at x k.horizon h other)
 
+-- what a keeper that stores its numbers has to show of an accepted sealing: all fits, and one number more is held
+pub one_more : (k l : Keeping) (at : Position) (x : ℕ) → Ok tt ≡ sealing k at → l ≡ sealed k at x → x < 2 ^ 32 → AllFit k → AllFit l × (held_count l ≡ held_count k + 1)
+one_more k l at x ok is small all = (subst AllFit (sym is) (sealed_fits k at x small all), ap held_count is ∙ count_more k at x ok)
+
 -- there is at most one number at each position
 count_le : (k : Keeping) → held_count k ≤ 2 * k.hosts * k.horizon
 unfolding held_count
@@ -84,7 +85,7 @@ count_le k =
     let top = k.horizon in
     let sort : (h : ℕ) (s : Sort) → sum_below top (bit k.held h s) ≤ top * 1 = λ h s. sum_le top (bit k.held h s) 1 (λ p. one_le _) in
     let all = sum_le k.hosts (of_host k.held top) (2 * top) (λ h. omega (arith, sort h List, sort h Nomination)) in
-    let swap : k.hosts * (2 * top) ≡ 2 * k.hosts * top = sym (mul_assoc k.hosts 2 top) ∙ ap (λ (n : ℕ). n * top) (mul_comm k.hosts 2) in
+    let swap : k.hosts * (2 * top) ≡ 2 * k.hosts * top = grind arith in
     omega (arith, all, swap)
 
 -- so there is room for one that can be sealed
@@ -99,8 +100,8 @@ count_empty n opened horizon = sum_none n _ (λ h. omega (arith, sum_none horizo
 -- a sealing adds one number if it is accepted
 count_sealed : (k : Keeping) (at : Position) (x : ℕ) → held_count (sealed k at x) ≡ held_count k + cond (is_some (seal_fault k at)) 0 1
 count_sealed k at x = ⊎_elim
-    (λ refused. omega (arith, ap held_count (sealed_not k at x refused), cond-true {A = ℕ} (is_some (seal_fault k at)) 0 1 refused))
-    (λ yes. omega (arith, count_more k at x (accepted tt (seal_fault k at) yes), cond-false {A = ℕ} (is_some (seal_fault k at)) 0 1 yes))
+    (λ refused. grind (arith, nat_tests, ap held_count (sealed_not k at x refused)))
+    (λ yes. grind (arith, nat_tests, count_more k at x (accepted tt (seal_fault k at) yes)))
     (cases_Bool (is_some (seal_fault k at)))
 
 -- and so do sealings one after another

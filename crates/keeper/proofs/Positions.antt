@@ -1,6 +1,7 @@
 -- The test of two positions tells whether they are one, and so what one number more makes of a map.
-use Rattle.std.proofs.Common.{◌≡◌, ℕ, true, false, eqb, ◌≢◌, Some, refl, ⊎_elim}
-use Rattle.std.proofs.lemmas.Bool.{cases_Bool, and_parts, and_from, eqb-true, eq-eqb, cond-true, cond-false, false≢true}
+use Rattle.std.proofs.Common.{◌≡◌, ℕ, true, false, eqb, ◌≢◌, Some, refl, arith}
+use Rattle.std.proofs.lemmas.Bool.{and_parts, eqb-true, false_from_ne_true, cond-true, cond-false}
+use Rattle.std.proofs.lemmas.Bool.Decides.{nat_tests}
 use Rattle.keeper.specs.declared.position.Sort.{Sort}
 use Rattle.keeper.specs.declared.position.Sort.TheVariants.{List, Nomination}
 use Rattle.keeper.specs.declared.position.Position.{Position}
@@ -9,8 +10,8 @@ use Rattle.keeper.specs.Keeping.{Map, same_sort, same_position, with_number}
 -- sorts that pass for one are one
 same_sort_is : (s t : Sort) → same_sort s t ≡ true → s ≡ t
 same_sort_is List List e = refl
-same_sort_is List Nomination e = absurd (false≢true e)
-same_sort_is Nomination List e = absurd (false≢true e)
+same_sort_is List Nomination e = cc
+same_sort_is Nomination List e = cc
 same_sort_is Nomination Nomination e = refl
 
 -- a sort is the same as itself
@@ -30,11 +31,11 @@ same_is a b e =
 
 -- positions that are not one do not pass for one
 pub same_not : (a b : Position) → a ≢ b → same_position a b ≡ false
-same_not a b apart = ⊎_elim (λ e. absurd (apart (same_is a b e))) (λ e. e) (cases_Bool (same_position a b))
+same_not a b apart = false_from_ne_true _ (λ e. apart (same_is a b e))
 
 -- a position is the same as itself
 pub same_itself : (a : Position) → same_position a a ≡ true
-same_itself a = and_from (eqb a.host a.host) _ (eq-eqb a.host a.host refl) (and_from (same_sort a.sort a.sort) _ (sort_itself a.sort) (eq-eqb a.phase a.phase refl))
+same_itself a = let sort = sort_itself a.sort in grind (arith, nat_tests)
 
 -- the number stands at its position
 pub with_here : (m : Map) (at : Position) (x : ℕ) → with_number m at x at ≡ Some x

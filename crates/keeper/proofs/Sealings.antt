@@ -1,5 +1,5 @@
 -- What an accepted sealing says of its position, and what it and a refused one leave.
-use Rattle.std.proofs.Common.{◌≡◌, ℕ, ◌^◌, ◌<◌, true, false, ltb, ◌⊎◌, is_some, Some, None, Ok, Err, Option, sym, refl, ap, ◌∙◌, inl, inr, ⊎_elim, arith}
+use Rattle.std.proofs.Common.{◌≡◌, ℕ, ◌^◌, ◌<◌, true, false, ◌⊎◌, cond, is_some, Some, None, Ok, Err, Option, Result, sym, refl, ap, ◌∙◌, inl, inr, ⊎_elim, arith}
 use Rattle.std.proofs.lemmas.Bool.{cases_Bool, cond-true, cond-false, and_from, lt-ltb}
 use Rattle.std.proofs.lemmas.Bool.Decides.{nat_tests}
 use Rattle.fault.specs.declared.Refusal.{Refusal}
@@ -20,7 +20,7 @@ pub record Free (k : Keeping) (at : Position) : Type 0 where
 -- nothing is there
 nothing_there : (o : Option ℕ) → is_some o ≡ false → o ≡ None
 nothing_there None e = refl
-nothing_there (Some x) e = absurd (grind arith)
+nothing_there (Some x) e = cc
 
 -- what an accepted sealing says
 pub free : (k : Keeping) (at : Position) → Ok tt ≡ sealing k at → Free k at
@@ -41,26 +41,17 @@ sealed_held k at x e = cond-false (is_some (seal_fault k at)) k.held _ (ap is_so
 pub sealed_not : (k : Keeping) (at : Position) (x : ℕ) → is_some (seal_fault k at) ≡ true → sealed k at x ≡ k
 sealed_not k at x refused = ap (holding k) (cond-true (is_some (seal_fault k at)) k.held _ refused)
 
--- a refused call has a refusal
-has_refusal : {X F : Type 0} (x : X) (o : Option F) (f : F) → Err f ≡ unless o x → is_some o ≡ true
-has_refusal x None f e = absurd (grind arith)
-has_refusal x (Some r) f e = refl
-
 -- the same, from what the sealing answered
 pub sealed_refused : (k : Keeping) (at : Position) (x : ℕ) (f : Refusal) → Err f ≡ sealing k at → k ≡ sealed k at x
-sealed_refused k at x f e = sym (sealed_not k at x (has_refusal tt (seal_fault k at) f e))
-
--- some number is not none
-pub no_number : (x : ℕ) → None ≡ Some x → ⊥
-no_number x e = grind arith
-
--- what is there is one number
-pub some_one : (x y : ℕ) → Some x ≡ Some y → x ≡ y
-some_one x y e = grind arith
+sealed_refused k at x f e = by (seal_fault k at) e
+  where
+    by : (o : Option Refusal) → ◌≡◌ {A = Result (Unit {0}) Refusal} (Err f) (unless o tt) → k ≡ holding k (cond (is_some o) k.held (with_number k.held at x))
+    by None e = cc
+    by (Some r) e = refl
 
 -- a position where a number can be sealed is inside
-pub free_inside : (k : Keeping) (at : Position) → Free k at → is_inside k at ≡ true
-free_inside k at f = and_from (ltb at.host k.hosts) _ (lt-ltb at.host k.hosts f.host) (lt-ltb at.phase k.horizon f.phase)
+pub free_inside : (k : Keeping) (at : Position) → Ok tt ≡ sealing k at → is_inside k at ≡ true
+free_inside k at e = let f = free k at e in grind (arith, nat_tests)
 
 -- a sealing that put its number at a position
 pub record New (k : Keeping) (at : Position) (x : ℕ) (p : Position) : Type 0 where
@@ -76,12 +67,11 @@ sealed_at k at x p = ⊎_elim
     (λ no. inl (ap (λ (m : Map). m p) (cond-true (is_some (seal_fault k at)) k.held _ no)))
     (λ yes.
     let ok = accepted tt (seal_fault k at) yes in
-    let f = free k at ok in
     let new = ap (λ (m : Map). m p) (sealed_held k at x ok) in
     ⊎_elim
     (λ e.
     let q = same_is at p e in
-    inr (record { ok = ok; here = q; inside = sym (ap (is_inside k) q) ∙ free_inside k at f; none = sym (ap k.held q) ∙ f.none; now = new ∙ cond-true (same_position at p) (Some x) _ e }))
+    inr (record { ok = ok; here = q; inside = sym (ap (is_inside k) q) ∙ free_inside k at ok; none = sym (ap k.held q) ∙ (free k at ok).none; now = new ∙ cond-true (same_position at p) (Some x) _ e }))
     (λ e. inl (new ∙ with_other k.held at x p e))
     (cases_Bool (same_position at p)))
     (cases_Bool (is_some (seal_fault k at)))

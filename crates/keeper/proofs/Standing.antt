@@ -1,13 +1,15 @@
 -- What is sealed stands, and nothing else is genuine.
 use Rattle.std.proofs.Common.{◌≡◌, ℕ, true, false, ◌⊎◌, [], ◌∷◌, ◌++◌, IfOk, Some, None, Ok, Err, Option, Result, sym, refl, ap, ◌∙◌, subst, inl, inr, ⊎_elim, arith}
-use Rattle.std.proofs.lemmas.Bool.{and_parts, and_from, or_cases, or_left, or_right, eqb-true, eq-eqb, true≢false, false≢true}
+use Rattle.std.proofs.lemmas.Bool.{and_parts, and_from, or_cases, or_left, or_right, eqb-true, true≢false}
+use Rattle.std.proofs.lemmas.Bool.Decides.{nat_tests}
+use Rattle.std.proofs.lemmas.Option.{none-some, same_Some}
 use Rattle.fault.specs.declared.Refusal.{Refusal}
 use Rattle.sets.specs.Sets.{has}
 use Rattle.keeper.specs.declared.position.Position.{Position}
 use Rattle.keeper.specs.Keeping.{Keeping, Map, holding, is_inside, holds, is_genuine, sealing, sealed, empty}
 use Rattle.keeper.specs.Seals.{Sealings, sealed_all, ForGood, SealedIn, Authentic}
 use Rattle.keeper.proofs.Positions.{with_here}
-use Rattle.keeper.proofs.Sealings.{sealed_at, no_number, some_one, free, free_inside, sealed_held}
+use Rattle.keeper.proofs.Sealings.{sealed_at, free_inside, sealed_held}
 
 -- hosts, open hosts and horizon stay
 bounds_stay : (k : Keeping) (later : Sealings) → sealed_all k later ≡ holding k (sealed_all k later).held
@@ -17,16 +19,16 @@ bounds_stay k (s ∷ ss) = bounds_stay (sealed k s.0 s.1) ss
 -- a number that is held stays
 held_stays : (k : Keeping) (later : Sealings) (at : Position) (x : ℕ) → k.held at ≡ Some x → (sealed_all k later).held at ≡ Some x
 held_stays k [] at x e = e
-held_stays k (s ∷ ss) at x e = held_stays (sealed k s.0 s.1) ss at x (⊎_elim (λ same. same ∙ e) (λ new. absurd (no_number x (sym new.none ∙ e))) (sealed_at k s.0 s.1 at))
+held_stays k (s ∷ ss) at x e = held_stays (sealed k s.0 s.1) ss at x (⊎_elim (λ same. same ∙ e) (λ new. absurd cc) (sealed_at k s.0 s.1 at))
 
 -- this number is there
 holds_is : (o : Option ℕ) (x : ℕ) → holds o x ≡ true → o ≡ Some x
-holds_is None x e = absurd (false≢true e)
+holds_is None x e = cc
 holds_is (Some y) x e = ap Some (eqb-true y x e)
 
 -- a number that is held is the one held
 is_held : (o : Option ℕ) (x : ℕ) → o ≡ Some x → holds o x ≡ true
-is_held o x e = ap (λ (p : Option ℕ). holds p x) e ∙ eq-eqb x x refl
+is_held o x e = grind (arith, nat_tests)
 
 -- why a number is genuine: the position is inside, and the host is open or the number is held
 genuine_is : (k : Keeping) (at : Position) (x : ℕ) → is_genuine k at x ≡ true → (is_inside k at ≡ true) × ((has k.opened at.host ≡ true) ⊎ (k.held at ≡ Some x))
@@ -58,7 +60,7 @@ genuine_for_good k at x e =
 
 -- a number that is sealed is genuine
 sealed_genuine : (k : Keeping) (at : Position) (x : ℕ) → Ok tt ≡ sealing k at → is_genuine (sealed k at x) at x ≡ true
-sealed_genuine k at x ok = genuine_from (sealed k at x) at x (free_inside k at (free k at ok)) (inr (ap (λ (m : Map). m at) (sealed_held k at x ok) ∙ with_here k.held at x))
+sealed_genuine k at x ok = genuine_from (sealed k at x) at x (free_inside k at ok) (inr (ap (λ (m : Map). m at) (sealed_held k at x ok) ∙ with_here k.held at x))
 
 -- so an accepted sealing is for good
 pub sealing_for_good : (k l : Keeping) (at : Position) (x : ℕ) (r : Result (Unit {0}) Refusal) → r ≡ sealing k at → l ≡ sealed k at x → IfOk r (λ _. ForGood l at x)
@@ -73,7 +75,7 @@ sealed_own k s at x shut e =
     ⊎_elim
     (λ same. inl (genuine_from k at x i (inr (sym same ∙ is))))
     (λ new.
-    let same = some_one s.1 x (sym new.now ∙ is) in
+    let same = same_Some s.1 x (sym new.now ∙ is) in
     inr (λ j. (new.here j, same j), sym (ap (sealing k) new.here) ∙ sym new.ok))
     (sealed_at k s.0 s.1 at)
 
@@ -104,6 +106,6 @@ sealed_in_genuine k done at x s =
 pub authentic : Authentic
 authentic n opened horizon done at x shut =
     let k = empty n opened horizon in (
-      λ e. ⊎_elim (λ then. absurd (no_number x (genuine_held k at x shut then))) (λ s. s) (genuine_since k done at x shut e),
+      λ e. ⊎_elim (λ then. absurd (none-some x (genuine_held k at x shut then))) (λ s. s) (genuine_since k done at x shut e),
       sealed_in_genuine k done at x,
     )

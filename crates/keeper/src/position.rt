@@ -3,14 +3,14 @@ ghost use Rattle.std.specs.Prelude.{◌≡◌};
 ghost use Rattle.keeper.specs.Keeping.{same_position};
 
 // The two sorts of number that a host seals: its list (the set of candidates that it would accept), and its nomination (the place that it proposes as owner).
-#[derive(Clone, Copy, PartialEq, Eq)]
+#[derive(Clone, Copy, PartialEq, Eq, Debug)]
 pub enum Sort {
-    List,
-    Nomination,
+    List = 0,
+    Nomination = 1,
 }
 
 // One position of a keeper's map.
-#[derive(Clone, Copy)]
+#[derive(Clone, Copy, PartialEq, Eq, Debug)]
 pub struct Position {
     pub host: u8,
     pub sort: Sort,
@@ -18,10 +18,10 @@ pub struct Position {
 }
 
 impl Position {
-    // Whether both are the same position.
+    // Whether both are the same position: `==` answers so.
     pub fn is_same(&self, other: Position) -> bool
         ensures { result ≡ same_position self.now other }
     {
-        self.host == other.host && self.sort == other.sort && self.phase == other.phase
+        *self == other
     }
 }

@@ -9,7 +9,7 @@ use fault::Refusal;
 use sets::{PHASES, has_host, has_only_below, is_host_count};
 
 impl Bounds {
-    // The bounds of a new keeper with room for so many numbers: all 0 where n is no number of hosts, or a host that there is not is open.
+    // The bounds of a new keeper with room for so many numbers: all 0 where n is no number of hosts, or a host that there is not is open. No refusal: a keeper is made of whatever is given.
     pub fn new(n: u8, opened: u16, room: usize) -> Bounds
         ensures { kept result nothing ≡ fresh n opened room }
     {
@@ -46,6 +46,7 @@ impl Bounds {
     pub fn judge(&self, at: Position, held: Option<u32>) -> Result<(), Refusal>
         ensures { result ≡ sealing (kept self.now (λ _. held)) at }
     {
+        // guards, in the order of the refusals: a chain of `ok_or` and `?` says no more
         if at.host >= self.hosts {
             return Err(Refusal::UnknownSealer);
         }
