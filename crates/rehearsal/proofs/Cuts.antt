@@ -6,7 +6,8 @@ use Rattle.rehearsal.specs.declared.line.Line.TheVariants.{Short}
 use Rattle.rehearsal.specs.declared.read.Head.{Head}
 use Rattle.rehearsal.specs.declared.read.Kind.{Kind}
 use Rattle.rehearsal.specs.declared.read.Kind.TheVariants.{Snapshots, Terms}
-use Rattle.rehearsal.specs.Reading.{byte, head_of, setup_size, size_in}
+use Rattle.parts.specs.Numbers.{byte}
+use Rattle.rehearsal.specs.Reading.{head_of, setup_size, size_in}
 use Rattle.rehearsal.specs.Lines.{sort_lines, lines_of}
 use Rattle.rehearsal.specs.Texts.{text_of}
 use Rattle.rehearsal.specs.Cuts.{CutShort, short_text}
