@@ -5,74 +5,74 @@ ghost use Rattle.std.specs.Prelude.{◌≡◌};
 ghost use Rattle.fault.specs.Refusals.{layer_number, number};
 
 // A refusal (an error code): of a setup, of which no council can be made; of a sealing; of a call; of a bag of letters; of a verdict.
-#[derive(Clone, Copy)]
+#[derive(Clone, Copy, Debug, Eq, PartialEq)]
 pub enum Refusal {
     // the number of hosts is not 1 to 16
-    HostCount,
+    HostCount = 1,
     // fewer than 3t + 1 hosts
-    FaultBound,
+    FaultBound = 2,
     // the fault set names a host that there is not, or more than t
-    FaultSet,
+    FaultSet = 3,
     // the number of candidates is not 1 to 32
-    CandidateCount,
+    CandidateCount = 4,
     // two candidates are equal
-    EqualCandidates,
+    EqualCandidates = 5,
     // not as many inputs as hosts
-    InputCount,
+    InputCount = 6,
     // an honest input equals no candidate
-    StrayInput,
+    StrayInput = 7,
     // the rota is for another number of hosts
-    RotaHosts,
+    RotaHosts = 8,
     // the keeper is for other hosts or open ones, has no phases, or holds a number already
-    UnfitKeeper,
+    UnfitKeeper = 9,
     // a number is to be sealed for a host that there is not
-    UnknownSealer,
+    UnknownSealer = 11,
     // for a phase that is not below the horizon
-    PastHorizon,
+    PastHorizon = 12,
     // for an open host
-    OpenSealer,
+    OpenSealer = 13,
     // where a number was sealed before
-    SealedBefore,
+    SealedBefore = 14,
     // the council could not be made
-    VoidCouncil,
+    VoidCouncil = 20,
     // the council is closed
-    ClosedCouncil,
+    ClosedCouncil = 21,
     // another call is awaited, or the open try is of another phase
-    OtherCall,
+    OtherCall = 22,
     // a list is called for at the keeper's horizon
-    AtHorizon,
+    AtHorizon = 23,
     // a part of the bag is longer than what is left of it
-    ShortPart,
+    ShortPart = 30,
     // the bag is of another phase or round
-    OtherRound,
+    OtherRound = 31,
     // bits that have to be zero are set
-    NotZero,
+    NotZero = 32,
     // bytes are left behind the last entry
-    LeftOver,
+    LeftOver = 33,
     // the sender or the recipient is a host that there is not
-    UnknownHost,
+    UnknownHost = 34,
     // a letter from a host to itself
-    SameHost,
+    SameHost = 35,
     // a letter to a faulty host
-    FaultyRecipient,
+    FaultyRecipient = 36,
     // carried from a faulty host, or forged from an honest one
-    WrongOrigin,
+    WrongOrigin = 37,
     // the pair of hosts had an entry before
-    PairMet,
+    PairMet = 38,
     // more bodies than the round allows
-    BodyCount,
+    BodyCount = 39,
     // a candidate that there is not
-    UnknownPlace,
+    UnknownPlace = 40,
     // a signer that there is not
-    UnknownSigner,
+    UnknownSigner = 41,
     // a verdict of a host that there is not
-    NoHost,
+    NoHost = 50,
     // of a faulty host
-    NotHonest,
+    NotHonest = 51,
     // of a host that has not decided
-    Undecided,
+    Undecided = 52,
     // at a place beyond the table that is given
-    BeyondTable,
+    BeyondTable = 53,
 }
 
 impl Refusal {
@@ -80,55 +80,21 @@ impl Refusal {
     pub fn number(&self) -> u8
         ensures { result ≡ number self.now }
     {
-        match self {
-            Refusal::HostCount => 1,
-            Refusal::FaultBound => 2,
-            Refusal::FaultSet => 3,
-            Refusal::CandidateCount => 4,
-            Refusal::EqualCandidates => 5,
-            Refusal::InputCount => 6,
-            Refusal::StrayInput => 7,
-            Refusal::RotaHosts => 8,
-            Refusal::UnfitKeeper => 9,
-            Refusal::UnknownSealer => 11,
-            Refusal::PastHorizon => 12,
-            Refusal::OpenSealer => 13,
-            Refusal::SealedBefore => 14,
-            Refusal::VoidCouncil => 20,
-            Refusal::ClosedCouncil => 21,
-            Refusal::OtherCall => 22,
-            Refusal::AtHorizon => 23,
-            Refusal::ShortPart => 30,
-            Refusal::OtherRound => 31,
-            Refusal::NotZero => 32,
-            Refusal::LeftOver => 33,
-            Refusal::UnknownHost => 34,
-            Refusal::SameHost => 35,
-            Refusal::FaultyRecipient => 36,
-            Refusal::WrongOrigin => 37,
-            Refusal::PairMet => 38,
-            Refusal::BodyCount => 39,
-            Refusal::UnknownPlace => 40,
-            Refusal::UnknownSigner => 41,
-            Refusal::NoHost => 50,
-            Refusal::NotHonest => 51,
-            Refusal::Undecided => 52,
-            Refusal::BeyondTable => 53,
-        }
+        *self as u8
     }
 }
 
 // How deep in a call a fault was found.
-#[derive(Clone, Copy)]
+#[derive(Clone, Copy, Debug, Eq, PartialEq)]
 pub enum Layer {
     // in the call itself, ahead of its bag
-    Call,
+    Call = 1,
     // in the bag's head, or behind its last entry
-    Bag,
+    Bag = 2,
     // in an entry's head, or in its set of candidates
-    Entry,
+    Entry = 3,
     // in a body
-    Body,
+    Body = 4,
 }
 
 impl Layer {
@@ -136,17 +102,12 @@ impl Layer {
     pub fn number(&self) -> u8
         ensures { result ≡ layer_number self.now }
     {
-        match self {
-            Layer::Call => 1,
-            Layer::Bag => 2,
-            Layer::Entry => 3,
-            Layer::Body => 4,
-        }
+        *self as u8
     }
 }
 
 // Why and where a call was refused. The offset is that of the first byte of the part that was being read, counted from the bag's first; 0 in the call itself.
-#[derive(Clone, Copy)]
+#[derive(Clone, Copy, Debug, Eq, PartialEq)]
 pub struct Fault {
     pub refusal: Refusal,
     pub layer: Layer,

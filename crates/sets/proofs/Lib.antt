@@ -1,3 +1,4 @@
+pub mod Lists
 pub mod Masks
 pub mod Sums
 pub mod Tests

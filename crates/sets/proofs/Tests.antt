@@ -1,5 +1,5 @@
 -- Laws of the tests over the numbers below a bound: every one passes, some one passes, the lowest that passes.
-use Rattle.std.proofs.Common.{◌≡◌, ℕ, zero, suc, ◌+◌, ◌<◌, Bool, true, false, cond, Some, None, Option, sym, refl, ap, ◌∙◌, subst, ⊎_elim, add-one, arith}
+use Rattle.std.proofs.Common.{◌≡◌, ℕ, zero, suc, ◌+◌, ◌<◌, Bool, true, false, cond, Some, None, Option, sym, refl, ap, ◌⊎◌, ◌∙◌, subst, inl, inr, ⊎_elim, add-one, arith}
 use Rattle.std.proofs.lemmas.Bool.{cases_Bool, cases_eq, true≢false, false≢true}
 use Rattle.sets.specs.Sets.{all_below, any_below, or_else, lowest}
 
@@ -12,6 +12,12 @@ all_none p = refl
 pub all_more : (n : ℕ) (p : ℕ → Bool) → p n ≡ true → all_below n p ≡ true → all_below (n + 1) p ≡ true
 unfolding all_below
 all_more n p e h = ap (λ (k : ℕ). all_below k p) (add-one n) ∙ rw (e, h)
+
+-- what holds of each holds of all
+pub all_true : (n : ℕ) (p : ℕ → Bool) → ((i : ℕ) → i < n → p i ≡ true) → all_below n p ≡ true
+unfolding all_below
+all_true zero p h = refl
+all_true (suc n) p h = let a = all_true n p (λ i l. h i (omega arith)) in let b = h n (omega arith) in rw (b, a)
 
 -- one that fails is enough
 pub all_false : (n : ℕ) (p : ℕ → Bool) (i : ℕ) → i < n → p i ≡ false → all_below n p ≡ false
@@ -77,15 +83,24 @@ lowest_some (suc n) p i l h e = ⊎_elim
     (λ o. let a = lowest_some n p i (omega arith) h e in rw a)
     (cases_eq i n)
 
+-- none passes, or there is a first that does
+abbrev pub First : ℕ → (ℕ → Bool) → Type 0
+First n p = ((k : ℕ) → k < n → p k ≡ false) ⊎ ((i : ℕ) × (i < n) × (p i ≡ true) × ((k : ℕ) → k < i → p k ≡ false))
+
+pub find_first : (n : ℕ) (p : ℕ → Bool) → First n p
+find_first zero p = inl (λ k l. absurd (omega arith))
+find_first (suc n) p = elim (find_first n p) [
+    | inr w ↦ inr (w.0, omega arith, w.2, w.3)
+    | inl none ↦
+        elim (cases_Bool (p n)) [
+          | inl t ↦ inr (n, omega arith, t, none)
+          | inr f ↦ inl (λ k l. ⊎_elim (λ e. ap p e ∙ f) (λ o. none k (omega arith)) (cases_eq k n))
+        ]
+  ]
+
 -- what the lowest says
-pub lowest_is : (n : ℕ) (p : ℕ → Bool) (i : ℕ) → lowest n p ≡ Some i → (i < n) × (p i ≡ true)
-unfolding lowest
-lowest_is zero p i e = absurd (let z : ◌≡◌ {A = ℕ} 0 1 = cc in omega arith)
-lowest_is (suc n) p i e = by (lowest n p) refl e (λ h. lowest_is n p i h)
-  where
-    by : (o : Option ℕ) → lowest n p ≡ o → or_else o (cond (p n) (Some n) None) ≡ Some i → (lowest n p ≡ Some i → (i < n) × (p i ≡ true)) → (i < suc n) × (p i ≡ true)
-    by (Some k) h q rec = let r = rec (h ∙ q) in (omega arith, r.1)
-    by None h q rec = ⊎_elim
-        (λ a. let s : n ≡ i = grind arith in (omega arith, subst (λ (x : ℕ). p x ≡ true) s a))
-        (λ a. absurd (grind arith))
-        (cases_Bool (p n))
+pub lowest_is : (n : ℕ) (p : ℕ → Bool) (i : ℕ) → lowest n p ≡ Some i → (i < n) × (p i ≡ true) × ((k : ℕ) → k < i → p k ≡ false)
+lowest_is n p i e = elim (find_first n p) [
+    | inl none ↦ let nothing = lowest_none n p none in absurd (cc)
+    | inr w ↦ let found = lowest_some n p w.0 w.1 w.2 w.3 in let same : w.0 ≡ i = cc in subst (λ (k : ℕ). (k < n) × (p k ≡ true) × ((j : ℕ) → j < k → p j ≡ false)) same (w.1, w.2, w.3)
+  ]

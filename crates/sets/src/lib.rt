@@ -14,7 +14,7 @@ pub const PHASES: u16 = 2048;
 pub fn is_host_count(n: u8) -> bool
     ensures { result ≡ is_host_count n }
 {
-    n >= 1 && n <= HOSTS
+    (1..=HOSTS).contains(&n)
 }
 
 // Whether the set has the host, which none has from 16 on.
@@ -28,12 +28,7 @@ pub fn has_host(hosts: u16, host: u8) -> bool
 pub fn has_only_below(hosts: u16, n: u8) -> bool
     ensures { result ≡ only_below n hosts }
 {
-    for host in 0..HOSTS {
-        if host >= n && has_host(hosts, host) {
-            return false;
-        }
-    }
-    true
+    is_mask_of(u32::from(hosts), n)
 }
 
 // How many hosts the set has.

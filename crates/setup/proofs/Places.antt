@@ -1,39 +1,60 @@
 -- Candidates at their places.
-use Rattle.std.proofs.Common.{◌≡◌, ℕ, ◌<◌, ◌≤◌, Bool, true, false, cond, not, ◌||◌, List, length, get_or, is_some, Some, None, Option, sym, refl, ap, ◌∙◌, inl, inr, ⊎_elim, arith}
+use Rattle.std.proofs.Common.{◌≡◌, ℕ, ◌<◌, ◌≤◌, Bool, true, false, eqb, not, ◌||◌, List, length, get_or, is_some, Some, None, Option, sym, refl, ap, ◌∙◌, inl, inr, ⊎_elim, zero-add, arith}
 use Rattle.std.specs.List.{slice_get}
-use Rattle.std.proofs.lemmas.Option.{slice_get_read, slice_get_past}
+use Rattle.std.proofs.lemmas.Option.{slice_get_past, slice_get-get_or}
 use Rattle.std.proofs.lemmas.Bool.{cases_order, cases_lt, true≢false, false≢true}
-use Rattle.sets.specs.Sets.{has}
+use Rattle.sets.specs.Sets.{has, all_below, lowest}
+use Rattle.std.specs.List.{list_all, enumerate_from, position}
+use Rattle.std.specs.Option.{option_eq}
+use Rattle.std.proofs.lemmas.List.FromFn.{length-enumerate_from, get_or-enumerate_from}
+use Rattle.sets.proofs.Lists.{all_list, position-lowest}
 use Rattle.sets.proofs.Masks.{get_or-per_host}
-use Rattle.sets.proofs.Tests.{all_each, lowest_is, lowest_none}
+use Rattle.sets.proofs.Tests.{all_true, all_false, all_each, find_first, lowest_is, lowest_none, lowest_some}
 use Rattle.setup.specs.Setup.{both_equal, new_at, distinct, place_of, place_at, places_of, all_placed}
 use Rattle.setup.specs.Placed.{OnlyPlace, Placed}
 
-module _ {C : Type 0} (equal : C → C → Bool) where
-  -- what the code reads at a place, beside something else
-  pub one_at : (cs : List C) (i : ℕ) (x : C) (o : Option C) → i < length cs → x ≡ get_or cs i x → both_equal equal (slice_get cs i) o ≡ both_equal equal (Some x) o
-  one_at cs i x o li xi = ap (λ (p : Option C). both_equal equal p o) (slice_get_read cs (length cs) i x refl li xi)
+-- a place that passes is the lowest where none before it passes
+lowest_new : (n : ℕ) (q : ℕ → Bool) (i : ℕ) → i < n → q i ≡ true → option_eq eqb (lowest n q) (Some i) ≡ all_below i (λ k. not (q k))
+lowest_new n q i l here = elim (find_first n q) [
+  | inl none ↦ absurd (true≢false (sym here ∙ none i l))
+  | inr w ↦
+      let found = lowest_some n q w.0 w.1 w.2 w.3 in
+      elim (cases_order w.0 i) [
+        | inl same ↦ let all = all_true i (λ k. not (q k)) (λ k m. ap not (w.3 k (omega arith))) in grind arith
+        | inr (inl before) ↦ let all = all_false i (λ k. not (q k)) w.0 before (ap not w.2) in grind arith
+        | inr (inr after) ↦ absurd (true≢false (sym here ∙ w.3 i after))
+      ]
+]
 
-  -- what it reads at two places
-  pub both_at : (cs : List C) (i j : ℕ) (x y : C) → i < length cs → j < length cs → x ≡ get_or cs i x → y ≡ get_or cs j y → both_equal equal (slice_get cs i) (slice_get cs j) ≡ equal x y
-  both_at cs i j x y li lj xi yj = one_at cs i x (slice_get cs j) li xi ∙ ap (both_equal equal (Some x)) (slice_get_read cs (length cs) j y refl lj yj)
+module _ {C : Type 0} (equal : C → C → Bool) where
+  -- a candidate that is equal to an input is found where it stands
+  pub place_of-position : (cs : List C) (x : C) → position (λ k. equal k x) cs ≡ place_of equal cs (Some x)
+  place_of-position cs x = position-lowest (λ k. equal k x) (λ k. both_equal equal (slice_get cs k) (Some x)) cs (λ i d l. ap (λ (o : Option C). both_equal equal o (Some x)) (sym (slice_get-get_or cs i d l)))
 
   -- nothing is equal to what is not there
   none_equal : (o : Option C) → both_equal equal o None ≡ false
   none_equal None = refl
   none_equal (Some x) = refl
 
-  -- the place of an honest host's input
-  place_honest : (faulty : ℕ) (cs xs : List C) (j : ℕ) (o : Option C) → has faulty j ≡ false → slice_get xs j ≡ o → place_at equal faulty cs xs j ≡ place_of equal cs o
-  place_honest faulty cs xs j o honest e = ap (λ (b : Bool). cond b None (place_of equal cs (slice_get xs j))) honest ∙ ap (place_of equal cs) e
+  -- an input that is not there has no place
+  pub place_of-none : (cs : List C) → place_of equal cs None ≡ None
+  place_of-none cs = lowest_none (length cs) (λ k. both_equal equal (slice_get cs k) None) (λ k l. none_equal (slice_get cs k))
 
-  -- the same, as the code finds it
-  pub place_some : (faulty : ℕ) (cs xs : List C) (j : ℕ) (x : C) → has faulty j ≡ false → j < length xs → x ≡ get_or xs j x → place_at equal faulty cs xs j ≡ place_of equal cs (Some x)
-  place_some faulty cs xs j x honest l at = place_honest faulty cs xs j (Some x) honest (slice_get_read xs (length xs) j x refl l at)
+  module _ (reflexive : (x : C) → equal x x ≡ true) where
+    -- a candidate is new where it is the first that is equal to it
+    first_at : (cs : List C) (i : ℕ) (x : C) → i < length cs → slice_get cs i ≡ Some x → option_eq eqb (place_of equal cs (Some x)) (Some i) ≡ new_at equal cs i
+    first_at cs i x l at =
+        let here = ap (λ (o : Option C). both_equal equal o (Some x)) at ∙ reflexive x in
+        lowest_new (length cs) (λ k. both_equal equal (slice_get cs k) (Some x)) i l here ∙ ap (λ (o : Option C). all_below i (λ k. not (both_equal equal (slice_get cs k) o))) (sym at)
 
-  pub place_none : (faulty : ℕ) (cs xs : List C) (j : ℕ) → has faulty j ≡ false → length xs ≤ j → place_at equal faulty cs xs j ≡ None
-  place_none faulty cs xs j honest h =
-      place_honest faulty cs xs j None honest (slice_get_past xs j h) ∙ lowest_none (length cs) (λ k. both_equal equal (slice_get cs k) None) (λ k l. none_equal (slice_get cs k))
+    -- so no two are equal where each is
+    pub first-distinct : (cs : List C) → list_all (λ (p : ℕ × C). option_eq eqb (place_of equal cs (Some p.1)) (Some p.0)) (enumerate_from 0 cs) ≡ distinct equal cs
+    first-distinct cs =
+        let first : ℕ × C → Bool = λ p. option_eq eqb (place_of equal cs (Some p.1)) (Some p.0) in
+        let long = length-enumerate_from 0 cs in
+        simp long at (all_list first (new_at equal cs) (enumerate_from 0 cs) (λ i d l.
+        (let low : i < length cs = omega arith in
+        ap first (get_or-enumerate_from 0 cs i d low ∙ ap (λ (j : ℕ). (j, get_or cs i d.1)) (zero-add i)) ∙ first_at cs i (get_or cs i d.1) low (slice_get-get_or cs i d.1 low))))
 
   -- a candidate that is equal to something stands somewhere
   stands : (cs : List C) (k : ℕ) (o : Option C) → both_equal equal (slice_get cs k) o ≡ true → k < length cs
@@ -80,4 +101,4 @@ module _ {C : Type 0} (equal : C → C → Bool) where
         let some : is_some (here_is j) ≡ true = sym (ap (λ (b : Bool). b || is_some (here_is j)) honest) ∙ each in
         let p = some_place (here_is j) some in
         let at = get_or-per_host (place_at equal faulty cs xs) None j (omega arith) in
-        (p.0, p.1, only_place cs x p.0 d (sym (place_honest faulty cs xs j (Some x) honest here) ∙ sym at ∙ p.1))
+        (p.0, p.1, only_place cs x p.0 d (grind arith))

@@ -2,7 +2,7 @@
 use candidate::term::{Term, TimeUnit};
 use rota::written::entries::WrittenRota;
 use rota::{Rota, TurnByTurn};
-use setup::judge;
+use setup::Setup;
 use std::test::Fail;
 
 // Two years, and a day.
@@ -35,9 +35,17 @@ const INPUTS: [Term; 3] = [
 
 // The setup number of n hosts, none of them faulty.
 fn number<R: Rota>(n: u8, inputs: &[Term], rota: &R) -> u8 {
-    match judge(n, 0, 0, &CANDIDATES, inputs, rota) {
+    let setup = Setup {
+        n,
+        t: 0,
+        faulty: 0,
+        candidates: &CANDIDATES,
+        inputs,
+        rota,
+    };
+    match setup.judge() {
         Ok(_) => 0,
-        Err(fault) => fault.number(),
+        Err(refusal) => refusal.number(),
     }
 }
 
@@ -64,18 +72,17 @@ fn a_rehearsal_does_not_reach_every_number(rt: HostRuntime) {
 
 #[test]
 fn places_of_honest_inputs(rt: HostRuntime) -> Result<(), Fail> {
-    let inputs = [INPUTS[2], INPUTS[0], INPUTS[1], INPUTS[1]];
-    match judge(4, 1, 1, &CANDIDATES, &inputs, &TurnByTurn::new(4)) {
-        Ok(found) => {
-            assert_eq!(rt; found.places[0], None);
-            assert_eq!(rt; found.places[1], Some(1));
-            assert_eq!(rt; found.places[2], Some(0));
-            assert_eq!(rt; found.places[3], Some(0));
-            for host in 4..16 {
-                assert_eq!(rt; found.places[host], None);
-            }
-            Ok(())
-        }
-        Err(_) => Err(Fail::new("refused")),
-    }
+    let setup = Setup {
+        n: 4,
+        t: 1,
+        faulty: 1,
+        candidates: &CANDIDATES,
+        inputs: &[INPUTS[2], INPUTS[0], INPUTS[1], INPUTS[1]],
+        rota: &TurnByTurn::new(4),
+    };
+    let found = setup.judge().map_err(|_| Fail::new("refused"))?;
+    let mut places = [None; 16];
+    places[1..4].copy_from_slice(&[Some(1), Some(0), Some(0)]);
+    assert_eq!(rt; found.places, places);
+    Ok(())
 }
