@@ -15,7 +15,7 @@ use line::Line;
 use read::{Head, Kind, Packed, read_head, read_list};
 use rota::TurnByTurn;
 use sets::has_host;
-use setup::judge;
+use setup::Setup;
 use std::alloc::{AllocError, Global};
 
 mod bags;
@@ -72,15 +72,20 @@ fn council_lines<C: Candidate>(
 ) -> Result<Vec<Line>, AllocError>
     ensures { IfOk result (λ v. v.items ≡ council_lines C.Candidate.equal head candidates.now inputs.now bags.now) }
 {
-    let rota = TurnByTurn::new(head.n);
-    match judge(head.n, head.t, head.faulty, candidates, inputs, &rota) {
-        Err(fault) => one_line(heap, Line::Setup(fault)),
-        Ok(_) => {
-            let mut lines = bag_lines(heap, bags)?;
-            push_hosts(&mut lines, head.n, head.faulty)?;
-            Ok(lines)
-        }
+    let setup = Setup {
+        n: head.n,
+        t: head.t,
+        faulty: head.faulty,
+        candidates,
+        inputs,
+        rota: &TurnByTurn::new(head.n),
+    };
+    if let Err(refusal) = setup.judge() {
+        return one_line(heap, Line::Setup(refusal));
     }
+    let mut lines = bag_lines(heap, bags)?;
+    push_hosts(&mut lines, head.n, head.faulty)?;
+    Ok(lines)
 }
 
 // The lines behind the head, for one kind of candidate.
