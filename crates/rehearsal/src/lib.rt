@@ -1,10 +1,10 @@
 // A rehearsal (a recorded run): a council's setup and its bags, from the bytes that were given to the text that is printed.
 #![tactic(auto)]
 
-ghost use Rattle.std.specs.Prelude.{◌≡◌, ℕ, List, [], ◌∷◌, ◌++◌, IfOk, string_bytes, OnOk};
+ghost use Rattle.std.specs.Prelude.{◌≡◌, ℕ, List, [], ◌∷◌, IfOk, string_bytes};
 ghost use Rattle.rehearsal.specs.Bags.{bags_of, counted};
 ghost use Rattle.rehearsal.specs.Cuts.{CutShort, short_text};
-ghost use Rattle.rehearsal.specs.Lines.{bag_lines, council_lines, host_line, host_lines, kind_lines, lines_of};
+ghost use Rattle.rehearsal.specs.Lines.{bag_lines, council_lines, host_line, kind_lines, lines_of};
 ghost use Rattle.rehearsal.specs.Texts.{text_of};
 
 use bags::count_bags;
@@ -55,14 +55,7 @@ fn host_line(faulty: u16, host: u8) -> Line
     }
 }
 
-// Adds a line for each host.
-fn push_hosts(lines: &mut Vec<Line>, n: u8, faulty: u16) -> Result<(), AllocError>
-    ensures { OnOk result (lines.new.items ≡ lines.old.items ++ host_lines n faulty) }
-{
-    lines.extend((0..n).map(|host| host_line(faulty, host)))
-}
-
-// The lines of a council of these candidates and inputs.
+// The lines of a council of these candidates and inputs. Nothing else takes the five together, so they are no struct.
 fn council_lines<C: Candidate>(
     heap: Global,
     head: Head,
@@ -84,7 +77,7 @@ fn council_lines<C: Candidate>(
         return one_line(heap, Line::Setup(refusal));
     }
     let mut lines = bag_lines(heap, bags)?;
-    push_hosts(&mut lines, head.n, head.faulty)?;
+    lines.extend((0..head.n).map(|host| host_line(head.faulty, host)))?;
     Ok(lines)
 }
 
