@@ -1,11 +1,15 @@
 -- Schedules that repeat: turn by turn, and by written entries.
-use Rattle.std.specs.Prelude.{ℕ, ◌%◌, Bool, cond, ◌&&◌, List, length, ◌==◌, nat_le, nat_lt, slice_index}
+use Rattle.std.specs.Prelude.{ℕ, ◌%◌, Bool, cond, if◌then◌else◌, ◌&&◌, List, length, Some, None, Option, ◌==◌, nat_le, nat_lt, slice_index}
 use Rattle.sets.specs.Sets.{all_below, any_below, is_host_count, phases}
 use Rattle.rota.specs.Schedule.{Schedule}
 
 -- the schedule of no hosts
 abbrev pub void : Schedule
 void = record { hosts = 0; window = 0; owner = λ k. 0 }
+
+-- which of so many turns comes up at phase k, where there are turns and phases
+abbrev pub turn_at : ℕ → ℕ → Option ℕ
+turn_at k turns = if nat_lt 0 turns && nat_lt k phases then Some (k % turns) else None
 
 -- n hosts own the phases by len entries, over and over
 abbrev pub cycle : ℕ → ℕ → (ℕ → ℕ) → Schedule

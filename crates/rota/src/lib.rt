@@ -3,7 +3,7 @@
 
 ghost use Rattle.std.specs.Prelude.{◌≡◌, ◌≤◌};
 ghost use Rattle.rota.specs.Schedule.{Schedule, Sound};
-ghost use Rattle.rota.specs.Cycles.{turn_by_turn};
+ghost use Rattle.rota.specs.Cycles.{turn_at, turn_by_turn};
 ghost use Rattle.rota.specs.Repeating.{sound_turns};
 
 use sets::{PHASES, is_host_count};
@@ -27,6 +27,17 @@ pub trait Rota {
         ensures { result ≡ (schedule self.now).owner phase };
 
     ghost sound: { (r : Self) → Sound (schedule r) };
+}
+
+// Which of so many turns comes up at a phase, where there are turns and phases.
+fn turn_at(phase: u16, turns: u8) -> Option<u8>
+    ensures { result ≡ turn_at phase turns }
+{
+    if turns > 0 && phase < PHASES {
+        Some((phase % u16::from(turns)) as u8)
+    } else {
+        None
+    }
 }
 
 // Phase k belongs to host k mod the number of hosts, which is 0 where the rota was made from a bad number.
@@ -60,10 +71,6 @@ impl Rota for TurnByTurn {
     }
 
     fn owner_of(&self, phase: u16) -> u8 {
-        if self.hosts > 0 && phase < PHASES {
-            (phase % u16::from(self.hosts)) as u8
-        } else {
-            0
-        }
+        turn_at(phase, self.hosts).unwrap_or(0)
     }
 }

@@ -1,45 +1,28 @@
 // Rotas by a list of entries.
-ghost use Rattle.std.specs.Prelude.{◌≡◌, ℕ, ◌<◌, ◌≤◌, true, length, nat_lt, slice_index};
-ghost use Rattle.sets.specs.Sets.{all_below};
-ghost use Rattle.rota.specs.Cycles.{by_entries, is_written, names, cycle};
+ghost use Rattle.std.specs.Prelude.{◌≡◌, ◌==◌, nat_lt, slice_index};
+ghost use Rattle.std.specs.List.{list_all, list_any, range_with_len};
+ghost use Rattle.rota.specs.Cycles.{by_entries, cycle, is_written};
 ghost use Rattle.rota.specs.Written.{written_schedule};
 ghost use Rattle.rota.specs.Repeating.{sound_entries, sound_if};
 
-use crate::Rota;
+use crate::{Rota, turn_at};
 use entries::WrittenRota;
-use sets::{PHASES, is_host_count};
+use sets::is_host_count;
 
 pub mod entries;
 
 // Whether each entry is below n.
 fn are_below(entries: &[u8], n: u8) -> bool
-    ensures { result ≡ all_below (length entries.now) (λ i. nat_lt (slice_index entries.now i) n) }
+    ensures { result ≡ list_all (λ x. nat_lt x n) entries.now }
 {
-    for entry in entries {
-        if *entry >= n {
-            return false;
-        }
-    }
-    true
+    entries.iter().all(|entry| *entry < n)
 }
 
-// Whether some entry names the host.
-fn name_host(entries: &[u8], host: u8) -> bool
-    ensures { result ≡ names entries.now (length entries.now) host }
-{
-    entries.contains(&host)
-}
-
-// Whether the entries name each host below n.
+// Whether some entry names each host below n.
 fn name_all(entries: &[u8], n: u8) -> bool
-    ensures { result ≡ all_below n (names entries.now (length entries.now)) }
+    ensures { result ≡ list_all (λ h. list_any (λ x. x == h) entries.now) (range_with_len 0 n) }
 {
-    for host in 0..n {
-        if !name_host(entries, host) {
-            return false;
-        }
-    }
-    true
+    (0..n).all(|host| entries.contains(&host))
 }
 
 // Whether the entries can be a rota of n hosts.
@@ -47,22 +30,9 @@ fn are_rota(entries: &[u8], n: u8) -> bool
     ensures { result ≡ is_written n entries.now }
 {
     is_host_count(n)
-        && entries.len() >= 1
-        && entries.len() <= 64
+        && (1..=64).contains(&entries.len())
         && are_below(entries, n)
         && name_all(entries, n)
-}
-
-// The entries at the front of a full array; what stands behind them is never read.
-fn padded(entries: &[u8]) -> [u8; 64]
-    requires { length entries.now ≤ 64 }
-    ensures { (k : ℕ) → k < length entries.now → slice_index result k ≡ slice_index entries.now k }
-{
-    let mut all = [0; 64];
-    for (i, entry) in entries.iter().enumerate() {
-        all[i] = *entry;
-    }
-    all
 }
 
 impl WrittenRota {
@@ -70,17 +40,19 @@ impl WrittenRota {
     pub fn new(n: u8, entries: &[u8]) -> WrittenRota
         ensures { written_schedule result ≡ by_entries n entries.now }
     {
+        let mut kept = [0; 64];
         if !are_rota(entries, n) {
             return WrittenRota {
                 hosts: 0,
                 len: 0,
-                entries: [0; 64],
+                entries: kept,
             };
         }
+        kept[..entries.len()].copy_from_slice(entries);
         WrittenRota {
             hosts: n,
             len: entries.len() as u8,
-            entries: padded(entries),
+            entries: kept,
         }
     }
 }
@@ -95,14 +67,13 @@ impl Rota for WrittenRota {
     }
 
     fn window(&self) -> u8 {
-        if self.hosts > 0 { self.len } else { 0 }
+        self.len
     }
 
     fn owner_of(&self, phase: u16) -> u8 {
-        if self.hosts > 0 && phase < PHASES {
-            self.entries[(phase % u16::from(self.len)) as usize]
-        } else {
-            0
+        match turn_at(phase, self.len) {
+            Some(turn) => self.entries[usize::from(turn)],
+            None => 0,
         }
     }
 }

@@ -1,10 +1,10 @@
 -- Tests over a list and over a range, in the words of tests over the numbers below a bound.
-use Rattle.std.proofs.Common.{◌≡◌, ℕ, zero, suc, ◌+◌, ◌<◌, Bool, true, false, cond, ◌&&◌, ltb, List, [], ◌∷◌, length, get_or, Some, None, Option, sym, subst, refl, ap, ◌∙◌, inl, inr, arith, zero-add}
-use Rattle.std.specs.List.{list_all, range_with_len, position, position_or_len}
+use Rattle.std.proofs.Common.{◌≡◌, ℕ, zero, suc, ◌<◌, Bool, false, ◌&&◌, ◌||◌, ltb, List, [], ◌∷◌, length, get_or, Some, None, sym, subst, refl, ap, ◌∙◌, inl, inr, arith, zero-add}
+use Rattle.std.specs.List.{list_all, list_any, range_with_len, position, position_or_len}
 use Rattle.std.proofs.lemmas.Bool.{cases_lt, lt-ltb, le-ltb, cond-true, cond-false}
 use Rattle.std.proofs.lemmas.List.FromFn.{length-range_with_len, get_or-range_with_len}
 use Rattle.std.proofs.lemmas.List.Sums.{fails_before_first, passes_at_first}
-use Rattle.sets.specs.Sets.{all_below, lowest}
+use Rattle.sets.specs.Sets.{all_below, any_below, lowest}
 use Rattle.sets.proofs.Tests.{lowest_none, lowest_some}
 
 -- the number 0, and the others
@@ -41,3 +41,18 @@ position-lowest p q (x ∷ xs) e =
       | inl l ↦ cond-true (ltb first (length all)) (Some first) None (lt-ltb _ _ l) ∙ sym (lowest_some (length all) q first l (sym (e first x l) ∙ passes_at_first p all x l) (λ k m. fails k m (omega arith)))
       | inr h ↦ cond-false (ltb first (length all)) (Some first) None (le-ltb _ _ h) ∙ sym (lowest_none (length all) q (λ k m. fails k (omega arith) m))
     ]
+
+-- some number passes: the number 0, or another
+any_first : (n : ℕ) (q : ℕ → Bool) → any_below (suc n) q ≡ (q 0 || any_below n (λ i. q (suc i)))
+unfolding any_below
+any_first zero q = refl
+any_first (suc n) q = let h = any_first n q in grind arith
+
+-- some element of a list passes
+pub any_list : {X : Type 0} (p : X → Bool) (q : ℕ → Bool) (xs : List X) → ((i : ℕ) (d : X) → i < length xs → p (get_or xs i d) ≡ q i) → list_any p xs ≡ any_below (length xs) q
+unfolding any_below
+any_list p q [] e = refl
+any_list p q (x ∷ xs) e =
+    let here : p x ≡ q 0 = e 0 x (omega arith) in
+    let rest = any_list p (λ i. q (suc i)) xs (λ i d l. e (suc i) d (omega arith)) in
+    (λ i. here i || rest i) ∙ sym (any_first (length xs) q)

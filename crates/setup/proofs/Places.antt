@@ -1,12 +1,11 @@
 -- Candidates at their places.
-use Rattle.std.proofs.Common.{◌≡◌, ℕ, ◌<◌, ◌≤◌, Bool, true, false, eqb, not, ◌||◌, List, length, get_or, is_some, Some, None, Option, sym, refl, ap, ◌∙◌, inl, inr, ⊎_elim, zero-add, arith}
-use Rattle.std.specs.List.{slice_get}
-use Rattle.std.proofs.lemmas.Option.{slice_get_past, slice_get-get_or}
-use Rattle.std.proofs.lemmas.Bool.{cases_order, cases_lt, true≢false, false≢true}
-use Rattle.sets.specs.Sets.{has, all_below, lowest}
-use Rattle.std.specs.List.{list_all, enumerate_from, position}
+use Rattle.std.proofs.Common.{◌≡◌, ℕ, ◌<◌, ◌≤◌, Bool, true, false, eqb, not, ◌||◌, List, length, get_or, is_some, Some, None, Option, sym, refl, ap, ◌∙◌, inl, inr, zero-add, arith}
+use Rattle.std.specs.List.{slice_get, list_all, enumerate_from, position}
 use Rattle.std.specs.Option.{option_eq}
+use Rattle.std.proofs.lemmas.Bool.{cases_order, true≢false, false≢true}
 use Rattle.std.proofs.lemmas.List.FromFn.{length-enumerate_from, get_or-enumerate_from}
+use Rattle.std.proofs.lemmas.Option.{slice_get_cases, slice_get-get_or}
+use Rattle.sets.specs.Sets.{has, all_below, lowest}
 use Rattle.sets.proofs.Lists.{all_list, position-lowest}
 use Rattle.sets.proofs.Masks.{get_or-per_host}
 use Rattle.sets.proofs.Tests.{all_true, all_false, all_each, find_first, lowest_is, lowest_none, lowest_some}
@@ -40,25 +39,32 @@ module _ {C : Type 0} (equal : C → C → Bool) where
   pub place_of-none : (cs : List C) → place_of equal cs None ≡ None
   place_of-none cs = lowest_none (length cs) (λ k. both_equal equal (slice_get cs k) None) (λ k l. none_equal (slice_get cs k))
 
+  -- a candidate at its place is the first that is equal to it
+  abbrev pub is_first : List C → ℕ × C → Bool
+  is_first cs p = option_eq eqb (place_of equal cs (Some p.1)) (Some p.0)
+
   module _ (reflexive : (x : C) → equal x x ≡ true) where
-    -- a candidate is new where it is the first that is equal to it
-    first_at : (cs : List C) (i : ℕ) (x : C) → i < length cs → slice_get cs i ≡ Some x → option_eq eqb (place_of equal cs (Some x)) (Some i) ≡ new_at equal cs i
-    first_at cs i x l at =
+    -- it is where no earlier one is equal to it
+    first_new : (cs : List C) (i : ℕ) (x : C) → i < length cs → slice_get cs i ≡ Some x → is_first cs (i, x) ≡ new_at equal cs i
+    first_new cs i x l at =
         let here = ap (λ (o : Option C). both_equal equal o (Some x)) at ∙ reflexive x in
         lowest_new (length cs) (λ k. both_equal equal (slice_get cs k) (Some x)) i l here ∙ ap (λ (o : Option C). all_below i (λ k. not (both_equal equal (slice_get cs k) o))) (sym at)
 
-    -- so no two are equal where each is
-    pub first-distinct : (cs : List C) → list_all (λ (p : ℕ × C). option_eq eqb (place_of equal cs (Some p.1)) (Some p.0)) (enumerate_from 0 cs) ≡ distinct equal cs
+    -- the same of the candidates with their places
+    each_new : (cs : List C) (i : ℕ) (d : ℕ × C) → i < length cs → is_first cs (get_or (enumerate_from 0 cs) i d) ≡ new_at equal cs i
+    each_new cs i d l =
+        let at = get_or-enumerate_from 0 cs i d l ∙ ap (λ (k : ℕ). (k, get_or cs i d.1)) (zero-add i) in
+        ap (is_first cs) at ∙ first_new cs i (get_or cs i d.1) l (slice_get-get_or cs i d.1 l)
+
+    -- so no two are equal where each is the first
+    pub first-distinct : (cs : List C) → list_all (is_first cs) (enumerate_from 0 cs) ≡ distinct equal cs
     first-distinct cs =
-        let first : ℕ × C → Bool = λ p. option_eq eqb (place_of equal cs (Some p.1)) (Some p.0) in
         let long = length-enumerate_from 0 cs in
-        simp long at (all_list first (new_at equal cs) (enumerate_from 0 cs) (λ i d l.
-        (let low : i < length cs = omega arith in
-        ap first (get_or-enumerate_from 0 cs i d low ∙ ap (λ (j : ℕ). (j, get_or cs i d.1)) (zero-add i)) ∙ first_at cs i (get_or cs i d.1) low (slice_get-get_or cs i d.1 low))))
+        simp long at (all_list (is_first cs) (new_at equal cs) (enumerate_from 0 cs) (λ i d l. each_new cs i d (omega arith)))
 
   -- a candidate that is equal to something stands somewhere
   stands : (cs : List C) (k : ℕ) (o : Option C) → both_equal equal (slice_get cs k) o ≡ true → k < length cs
-  stands cs k o e = ⊎_elim (λ l. l) (λ h. absurd (true≢false (sym e ∙ ap (λ (m : Option C). both_equal equal m o) (slice_get_past cs k h)))) (cases_lt k (length cs))
+  stands cs k o e = grind (arith, slice_get_cases)
 
   module _ (symmetric : (x y : C) → equal x y ≡ true → equal y x ≡ true) (transitive : (x y z : C) → equal x y ≡ true → equal y z ≡ true → equal x z ≡ true) where
     -- two that are equal to a third are equal
@@ -84,7 +90,7 @@ module _ {C : Type 0} (equal : C → C → Bool) where
           only = λ k also.
               elim (cases_order k place) [
                 | inl same ↦ same
-                | inr (inl before) ↦ absurd (clash cs k place x d before also w.1)
+                | inr (inl before) ↦ absurd (true≢false (sym also ∙ w.2 k before))
                 | inr (inr after) ↦ absurd (clash cs place k x d after w.1 also)
               ];
         }
@@ -94,11 +100,11 @@ module _ {C : Type 0} (equal : C → C → Bool) where
     some_place None e = absurd (false≢true e)
     some_place (Some p) e = (p, refl)
 
+    -- each honest input has one place, where it has any
     pub placed : (n faulty : ℕ) (cs xs : List C) → n ≤ 16 → distinct equal cs ≡ true → all_placed n faulty (places_of equal faulty cs xs) ≡ true → Placed equal n faulty cs xs (places_of equal faulty cs xs)
     placed n faulty cs xs few d all j x l honest here =
-        let here_is : ℕ → Option ℕ = λ k. get_or (places_of equal faulty cs xs) k None in
-        let each : has faulty j || is_some (here_is j) ≡ true = all_each n (λ k. has faulty k || is_some (here_is k)) all j l in
-        let some : is_some (here_is j) ≡ true = sym (ap (λ (b : Bool). b || is_some (here_is j)) honest) ∙ each in
-        let p = some_place (here_is j) some in
+        let ps = places_of equal faulty cs xs in
+        let each = all_each n (λ k. has faulty k || is_some (get_or ps k None)) all j l in
+        let p = some_place (get_or ps j None) (grind arith) in
         let at = get_or-per_host (place_at equal faulty cs xs) None j (omega arith) in
         (p.0, p.1, only_place cs x p.0 d (grind arith))

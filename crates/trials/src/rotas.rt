@@ -7,8 +7,8 @@ use std::process::Abort;
 fn answers<R: Rota>(rt: &impl Abort, rota: &R, hosts: u8, window: u8, owners: &[(u16, u8)]) {
     assert_eq!(rt; rota.host_count(), hosts);
     assert_eq!(rt; rota.window(), window);
-    for (phase, owner) in owners {
-        assert_eq!(rt; rota.owner_of(*phase), *owner);
+    for &(phase, owner) in owners {
+        assert_eq!(rt; rota.owner_of(phase), owner);
     }
 }
 

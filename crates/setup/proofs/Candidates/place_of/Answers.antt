@@ -9,6 +9,6 @@ returns g c =
     let equal = g.C.Candidate.equal in
     let cs = c.args.self.now.list.now in
     let x = c.args.input.now in
-    let e = position_from_yields_List (λ k. equal k x) _ _ c.position.result c.position.ensures.ran (YieldsList-from_slice cs cc) (λ x b q k. search (rules, tests)) in
-    let f : c.map.result ≡ c.position.result = search rules in
-    f ∙ e ∙ place_of-position equal cs x
+    let found = position_from_yields_List (λ k. equal k x) _ _ c.position.result c.position.ensures.ran (YieldsList-from_slice cs cc) (λ y b q k. search (rules, tests)) in
+    let cast : c.map.result ≡ c.position.result = search rules in
+    cast ∙ found ∙ place_of-position equal cs x
