@@ -1,8 +1,7 @@
 // Candidates (the values that can be agreed on). A kind of candidate brings an equality that keeps three laws.
 #![tactic(auto)]
 
-ghost use Rattle.std.specs.Prelude.{◌≡◌, ℕ, Bool, true, List};
-ghost use Rattle.std.specs.Fmt.{WritesOnOk};
+ghost use Rattle.std.specs.Prelude.{◌≡◌, ℕ, Bool, true, List, Some};
 
 use std::fmt;
 
@@ -10,7 +9,7 @@ pub mod snapshot;
 pub mod term;
 pub mod verdict;
 
-// A kind of candidate. Its equality may join candidates of different spelling.
+// A kind of candidate. Its equality may join candidates of different spelling, so it is not the `==` of a derive.
 pub trait Candidate {
     ghost equal: { Self → Self → Bool };
 
@@ -25,11 +24,9 @@ pub trait Candidate {
     ghost transitive: { (x y z : Self) → equal x y ≡ true → equal y z ≡ true → equal x z ≡ true };
 }
 
-// A kind of candidate that can be printed.
-pub trait Printable: Candidate {
+// A kind of candidate that can be printed: its printed form, byte for byte.
+pub trait Printable: Candidate + fmt::Display {
     ghost text: { Self → List ℕ };
 
-    // Writes the printed form, byte for byte.
-    fn print<W: fmt::Write>(&self, f: &mut fmt::Formatter<W>) -> fmt::Result
-        ensures { WritesOnOk W.write_str_gives f.old result (text self.now) f.new };
+    ghost shown: { (x : Self) → Self.output x ≡ Some (text x) };
 }

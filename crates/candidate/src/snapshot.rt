@@ -1,4 +1,5 @@
 // Snapshots of manuals, as candidates.
+ghost use Rattle.std.specs.Prelude.{Some, refl};
 ghost use Rattle.candidate.specs.Equality.{equal_snapshots};
 ghost use Rattle.candidate.specs.Texts.{snapshot_text};
 ghost use Rattle.std.proofs.Common.{rules};
@@ -7,7 +8,7 @@ use crate::{Candidate, Printable};
 use std::fmt;
 
 // A numbered snapshot of a numbered manual.
-#[derive(Clone, Copy)]
+#[derive(Clone, Copy, Debug, PartialEq, Eq)]
 pub struct Snapshot {
     pub manual: u32,
     pub snapshot: u32,
@@ -23,16 +24,20 @@ impl Candidate for Snapshot {
     ghost transitive = { Prim.search rules };
 
     fn equals(&self, other: &Self) -> bool {
-        self.manual == other.manual && self.snapshot == other.snapshot
+        self == other
+    }
+}
+
+impl fmt::Display for Snapshot {
+    ghost output = { λ s. Some (snapshot_text s) };
+
+    fn fmt<W: fmt::Write>(&self, f: &mut fmt::Formatter<W>) -> fmt::Result {
+        write!(f, "{} {}", self.manual, self.snapshot)
     }
 }
 
 impl Printable for Snapshot {
     ghost text = { snapshot_text };
 
-    fn print<W: fmt::Write>(&self, f: &mut fmt::Formatter<W>) -> fmt::Result {
-        let manual = self.manual;
-        let snapshot = self.snapshot;
-        write!(f, "{manual} {snapshot}")
-    }
+    ghost shown = { λ s. refl };
 }

@@ -1,14 +1,15 @@
 // Terms, for how long something is kept, as candidates.
-ghost use Rattle.std.specs.Prelude.{◌≡◌};
+ghost use Rattle.std.specs.Prelude.{◌≡◌, Some, refl};
 ghost use Rattle.candidate.specs.Equality.{equal_terms, length_of};
 ghost use Rattle.candidate.specs.Texts.{term_text};
+ghost use Rattle.candidate.specs.Units.{unit_in};
 ghost use Rattle.std.proofs.Common.{rules};
 
 use crate::{Candidate, Printable};
 use std::fmt;
 
 // What a term counts; until the project closes, nothing is counted.
-#[derive(Clone, Copy)]
+#[derive(Clone, Copy, Debug, PartialEq, Eq)]
 pub enum TimeUnit {
     Days,
     Months,
@@ -16,7 +17,27 @@ pub enum TimeUnit {
     UntilClose,
 }
 
-// So many of a unit.
+// A number that no unit has.
+#[derive(Clone, Copy, Debug, PartialEq, Eq)]
+pub struct UnknownUnit(pub u8);
+
+impl TryFrom<u8> for TimeUnit {
+    type Error = UnknownUnit;
+
+    ghost try_from_gives = { λ code r. r ≡ unit_in code };
+
+    fn try_from(code: u8) -> Result<Self, UnknownUnit> {
+        match code {
+            0 => Ok(TimeUnit::Days),
+            1 => Ok(TimeUnit::Months),
+            2 => Ok(TimeUnit::Years),
+            3 => Ok(TimeUnit::UntilClose),
+            _ => Err(UnknownUnit(code)),
+        }
+    }
+}
+
+// So many of a unit. `==` is not derived: terms of another spelling can be equal.
 #[derive(Clone, Copy)]
 pub struct Term {
     pub unit: TimeUnit,
@@ -24,7 +45,7 @@ pub struct Term {
 }
 
 // What a term comes to, whatever its spelling.
-#[derive(Clone, Copy)]
+#[derive(Clone, Copy, Debug, PartialEq, Eq)]
 pub enum Length {
     Days(u32),
     Months(u32),
@@ -56,11 +77,19 @@ impl Candidate for Term {
     ghost transitive = { Prim.search rules };
 
     fn equals(&self, other: &Self) -> bool {
-        match (self.length(), other.length()) {
-            (Length::Days(m), Length::Days(n)) => m == n,
-            (Length::Months(m), Length::Months(n)) => m == n,
-            (Length::UntilClose, Length::UntilClose) => true,
-            _ => false,
+        self.length() == other.length()
+    }
+}
+
+impl fmt::Display for Term {
+    ghost output = { λ t. Some (term_text t) };
+
+    fn fmt<W: fmt::Write>(&self, f: &mut fmt::Formatter<W>) -> fmt::Result {
+        match self.unit {
+            TimeUnit::Days => write!(f, "{}d", self.count),
+            TimeUnit::Months => write!(f, "{}m", self.count),
+            TimeUnit::Years => write!(f, "{}y", self.count),
+            TimeUnit::UntilClose => write!(f, "close"),
         }
     }
 }
@@ -68,13 +97,5 @@ impl Candidate for Term {
 impl Printable for Term {
     ghost text = { term_text };
 
-    fn print<W: fmt::Write>(&self, f: &mut fmt::Formatter<W>) -> fmt::Result {
-        let count = self.count;
-        match self.unit {
-            TimeUnit::Days => write!(f, "{count}d"),
-            TimeUnit::Months => write!(f, "{count}m"),
-            TimeUnit::Years => write!(f, "{count}y"),
-            TimeUnit::UntilClose => write!(f, "close"),
-        }
-    }
+    ghost shown = { λ t. refl };
 }

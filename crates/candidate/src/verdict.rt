@@ -16,8 +16,6 @@ impl<C: Printable> fmt::Display for Verdict<C> {
     ghost output = { λ v. Some (verdict_text C.Printable.text v) };
 
     fn fmt<W: fmt::Write>(&self, f: &mut fmt::Formatter<W>) -> fmt::Result {
-        self.candidate.print(f)?;
-        let phase = self.phase;
-        write!(f, " at {phase}")
+        write!(f, "{} at {}", self.candidate, self.phase)
     }
 }

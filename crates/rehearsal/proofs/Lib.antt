@@ -1,3 +1,3 @@
 pub mod Council
-pub mod Cuts
+pub mod Listed
 pub mod Splitting

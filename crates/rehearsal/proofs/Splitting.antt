@@ -1,10 +1,10 @@
 -- Bags split off one after another, and the loop that counts them.
-use Rattle.std.proofs.Common.{◌≡◌, ℕ, zero, suc, ◌+◌, ◌-◌, ◌<◌, ◌≤◌, Bool, true, ltb, List, [], ◌∷◌, length, take, drop, sym, refl, ap, ◌∙◌, ⊎_elim, arith, length-drop}
-use Rattle.std.proofs.lemmas.List.{take_rest}
+use Rattle.std.proofs.Common.{◌≡◌, ℕ, zero, suc, ◌+◌, ◌<◌, ◌≤◌, Bool, true, ltb, List, [], ◌∷◌, length, take, drop, sym, refl, ap, ◌∙◌, ⊎_elim, arith, length-drop, lit<, ◌*◌}
+use Rattle.std.proofs.lemmas.List.{drop-drop, get_or-take}
 use Rattle.std.proofs.lemmas.Bool.{cases_lt, le-ltb, lt-ltb}
 use Rattle.std.proofs.lemmas.Bool.Decides.{nat_tests}
 use Rattle.rehearsal.specs.declared.bags.BagCount.{BagCount}
-use Rattle.rehearsal.specs.Reading.{word}
+use Rattle.parts.specs.Numbers.{word}
 use Rattle.rehearsal.specs.Bags.{Bags, with_bag, first_bags, bags_of, counted}
 
 -- any number of bags that suffices will do
@@ -53,17 +53,6 @@ after whole c = record { whole = whole + c.whole; torn = c.torn }
 abbrev pub Counting : List ℕ → ℕ → List ℕ → Type 0
 Counting bytes whole rest = (whole + length rest ≤ length bytes) × (counted (bags_of bytes) ≡ after whole (counted (bags_of rest)))
 
--- one bag more is counted
-pub past_one : (bytes rest : List ℕ) (whole s : ℕ) → s ≡ word rest 0 → 2 ≤ length rest → 2 + s ≤ length rest → Counting bytes whole rest
-    → Counting bytes (whole + 1) (take (length rest - (2 + s)) (drop (2 + s) rest))
-past_one bytes rest whole s e p q h =
-    let d = length-drop (2 + s) rest in
-    let q' : 2 + word rest 0 ≤ length rest = omega arith in
-    let left = counted (bags_of (drop (2 + s) rest)) in
-    let m : counted (bags_of rest) ≡ record { whole = suc left.whole; torn = left.torn } = ap counted (bags_more rest p q') ∙ ap (λ (k : ℕ). counted (with_bag (take (word rest 0) (drop 2 rest)) (bags_of (drop (2 + k) rest)))) (sym e) in
-    let k : whole + suc left.whole ≡ whole + 1 + left.whole = omega arith in
-    rw (take_rest rest (2 + s)) (omega arith, h.1 ∙ ap (after whole) m ∙ ap (λ (j : ℕ). record { whole = j; torn = left.torn }) k)
-
 -- the loop ends with nothing whole left
 last : (bytes rest : List ℕ) (whole : ℕ) (torn : Bool) → bags_of rest ≡ record { whole = []; torn = torn } → Counting bytes whole rest → record { whole = whole; torn = torn } ≡ counted (bags_of bytes)
 last bytes rest whole torn f h =
@@ -74,6 +63,25 @@ last bytes rest whole torn f h =
 pub last_few : (bytes rest : List ℕ) (whole : ℕ) (torn : Bool) → length rest < 2 → torn ≡ ltb 0 (length rest) → Counting bytes whole rest → record { whole = whole; torn = torn } ≡ counted (bags_of bytes)
 last_few bytes rest whole torn p e = last bytes rest whole torn (bags_few rest p ∙ ap (λ (t : Bool). record { whole = []; torn = t }) (sym e))
 
+-- a byte count s, as it is split off
+abbrev pub SplitOff : List ℕ → List ℕ → List ℕ → ℕ → Type 0
+SplitOff rest front behind s = (front ≡ take 2 rest) × (behind ≡ drop 2 rest) × (length behind + 2 ≡ length rest) × (s ≡ word front 0)
+
+-- it is that at the front
+same_count : (rest front behind : List ℕ) (s : ℕ) → SplitOff rest front behind s → s ≡ word rest 0
+same_count rest front behind s h = h.3 ∙ ap (λ (f : List ℕ). word f 0) h.0 ∙ (λ i. get_or-take 2 rest 0 0 (lit< tt) i * 256 + get_or-take 2 rest 1 0 (lit< tt) i)
+
 -- a bag is left that is cut off
-pub last_torn : (bytes rest : List ℕ) (whole s : ℕ) → s ≡ word rest 0 → 2 ≤ length rest → length rest < 2 + s → Counting bytes whole rest → record { whole = whole; torn = true } ≡ counted (bags_of bytes)
-last_torn bytes rest whole s e p q = last bytes rest whole true (bags_torn rest p (omega arith))
+pub last_torn : (bytes rest front behind : List ℕ) (whole s : ℕ) → SplitOff rest front behind s → length behind < s → Counting bytes whole rest → record { whole = whole; torn = true } ≡ counted (bags_of bytes)
+last_torn bytes rest front behind whole s h p = let e = same_count rest front behind s h in last bytes rest whole true (bags_torn rest (omega (arith, h.2)) (omega (arith, h.2)))
+
+-- one bag more is counted
+pub past_one : (bytes rest front behind next : List ℕ) (whole s : ℕ) → SplitOff rest front behind s → s ≤ length behind → next ≡ drop s behind → Counting bytes whole rest → Counting bytes (whole + 1) next
+past_one bytes rest front behind next whole s h p n k =
+    let e = same_count rest front behind s h in
+    let left = counted (bags_of (drop (2 + s) rest)) in
+    let m : counted (bags_of rest) ≡ record { whole = suc left.whole; torn = left.torn } = ap counted (bags_more rest (omega (arith, h.2)) (omega (arith, h.2))) ∙ ap (λ (j : ℕ). counted (with_bag (take (word rest 0) (drop 2 rest)) (bags_of (drop (2 + j) rest)))) (sym e) in
+    let j : whole + suc left.whole ≡ whole + 1 + left.whole = omega arith in
+    let d : next ≡ drop (2 + s) rest = n ∙ ap (drop s) h.1 ∙ drop-drop s 2 rest in
+    let l = length-drop (2 + s) rest in
+    rw d (omega (arith, h.2, k.0), k.1 ∙ ap (after whole) m ∙ ap (λ (i : ℕ). record { whole = i; torn = left.torn }) j)

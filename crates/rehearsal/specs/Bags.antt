@@ -1,7 +1,7 @@
 -- The bags behind a setup, each after its byte count.
 use Rattle.std.specs.Prelude.{ℕ, zero, suc, ◌+◌, Bool, true, false, cond, List, [], ◌∷◌, length, take, drop, nat_lt}
 use Rattle.rehearsal.specs.declared.bags.BagCount.{BagCount}
-use Rattle.rehearsal.specs.Reading.{word}
+use Rattle.parts.specs.Numbers.{word}
 
 -- the whole bags, and whether bytes are missing in one more bag or its count
 pub record Bags : Type 0 where

@@ -1,25 +1,13 @@
 -- What the bytes of a rehearsal's setup say. Numbers have their most significant bit first.
-use Rattle.std.specs.Prelude.{ℕ, ◌+◌, ◌*◌, ◌/◌, ◌%◌, cond, List, map, length, Some, None, Option, ◌==◌, nat_lt, slice_index}
+use Rattle.std.specs.Prelude.{ℕ, ◌+◌, ◌*◌, ◌/◌, ◌%◌, cond, List, map, length, Some, None, Option, ◌==◌, nat_lt}
 use Rattle.std.specs.List.{range_with_len}
 use Rattle.candidate.specs.declared.snapshot.Snapshot.{Snapshot}
 use Rattle.candidate.specs.declared.term.Term.{Term}
-use Rattle.candidate.specs.declared.term.TimeUnit.{TimeUnit}
-use Rattle.candidate.specs.declared.term.TimeUnit.TheVariants.{Days, Months, Years, UntilClose}
+use Rattle.candidate.specs.Units.{unit_of}
+use Rattle.parts.specs.Numbers.{byte, word, long_word}
 use Rattle.rehearsal.specs.declared.read.Head.{Head}
 use Rattle.rehearsal.specs.declared.read.Kind.{Kind}
 use Rattle.rehearsal.specs.declared.read.Kind.TheVariants.{Snapshots, Terms}
-
--- the byte at a place; past the end, where nothing is read, 0
-abbrev pub byte : List ℕ → ℕ → ℕ
-byte bs at = slice_index bs at
-
--- the number in two bytes
-abbrev pub word : List ℕ → ℕ → ℕ
-word bs at = byte bs at * 256 + byte bs (at + 1)
-
--- the number in four bytes
-abbrev pub long_word : List ℕ → ℕ → ℕ
-long_word bs at = byte bs at * 16777216 + byte bs (at + 1) * 65536 + byte bs (at + 2) * 256 + byte bs (at + 3)
 
 -- the sort, in two bits; 2 and 3 are no kind of candidate
 abbrev pub kind_of : ℕ → Option Kind
@@ -55,10 +43,6 @@ setup_size size h = inputs_at size h + size * h.n
 -- manual (32 bits), snapshot (32)
 abbrev pub snapshot_at : List ℕ → ℕ → Snapshot
 snapshot_at bs at = record { manual = long_word bs at; snapshot = long_word bs (at + 4) }
-
--- the unit of a term, in two bits
-abbrev pub unit_of : ℕ → TimeUnit
-unit_of k = cond (k == 0) Days (cond (k == 1) Months (cond (k == 2) Years UntilClose))
 
 -- unit (2 bits), count (14)
 abbrev pub term_at : List ℕ → ℕ → Term

@@ -2,7 +2,7 @@
 ghost use Rattle.std.specs.Prelude.{◌≡◌};
 ghost use Rattle.rehearsal.specs.Bags.{bags_of, counted};
 
-// How many whole bags there are, and whether bytes are missing in one more bag or its count.
+// How many whole bags there are, and whether bytes are missing in one more bag or its count. Both are always said.
 #[derive(Clone, Copy)]
 pub struct BagCount {
     pub whole: usize,
@@ -15,13 +15,13 @@ pub(crate) fn count_bags(bytes: &[u8]) -> BagCount
 {
     let mut whole = 0;
     let mut rest = bytes;
-    while rest.len() >= 2 {
-        let size = 2 + u16::from_be_bytes([rest[0], rest[1]]) as usize;
-        if rest.len() < size {
+    while let Some((size, behind)) = rest.split_first_chunk::<2>() {
+        let size = usize::from(u16::from_be_bytes(*size));
+        let Some((_, after)) = behind.split_at_checked(size) else {
             return BagCount { whole, torn: true };
-        }
+        };
         whole += 1;
-        rest = &rest[size..];
+        rest = after;
     }
     BagCount {
         whole,

@@ -1,21 +1,21 @@
 // A rehearsal (a recorded run): a council's setup and its bags, from the bytes that were given to the text that is printed.
 #![tactic(auto)]
 
-ghost use Rattle.std.specs.Prelude.{◌≡◌, ℕ, List, [], ◌∷◌, ◌++◌, IfOk, string_bytes, OnOk};
+ghost use Rattle.std.specs.Prelude.{◌≡◌, ℕ, List, [], ◌∷◌, IfOk, string_bytes};
 ghost use Rattle.rehearsal.specs.Bags.{bags_of, counted};
 ghost use Rattle.rehearsal.specs.Cuts.{CutShort, short_text};
-ghost use Rattle.rehearsal.specs.Lines.{bag_lines, council_lines, host_line, host_lines, kind_lines, lines_of};
-ghost use Rattle.rehearsal.specs.Texts.{ended_line, text_of};
+ghost use Rattle.rehearsal.specs.Lines.{bag_lines, council_lines, host_line, kind_lines, lines_of};
+ghost use Rattle.rehearsal.specs.Texts.{text_of};
 
 use bags::count_bags;
 use candidate::Candidate;
 use candidate::snapshot::Snapshot;
 use candidate::term::Term;
 use line::Line;
-use read::{Head, Kind, Packed, read_head, read_list, span_of};
+use read::{Head, Kind, Packed, read_head, read_list};
 use rota::TurnByTurn;
 use sets::has_host;
-use setup::judge;
+use setup::Setup;
 use std::alloc::{AllocError, Global};
 
 mod bags;
@@ -26,9 +26,7 @@ mod read;
 fn one_line(heap: Global, line: Line) -> Result<Vec<Line>, AllocError>
     ensures { IfOk result (λ v. v.items ≡ line ∷ []) }
 {
-    let mut lines = Vec::new(heap);
-    lines.push(line)?;
-    Ok(lines)
+    Ok(vec![in heap; line]?)
 }
 
 // What is printed of the bags, which are not played yet.
@@ -57,17 +55,7 @@ fn host_line(faulty: u16, host: u8) -> Line
     }
 }
 
-// Adds a line for each host.
-fn push_hosts(lines: &mut Vec<Line>, n: u8, faulty: u16) -> Result<(), AllocError>
-    ensures { OnOk result (lines.new.items ≡ lines.old.items ++ host_lines n faulty) }
-{
-    for host in 0..n {
-        lines.push(host_line(faulty, host))?;
-    }
-    Ok(())
-}
-
-// The lines of a council of these candidates and inputs.
+// The lines of a council of these candidates and inputs. Nothing else takes the five together, so they are no struct.
 fn council_lines<C: Candidate>(
     heap: Global,
     head: Head,
@@ -77,15 +65,20 @@ fn council_lines<C: Candidate>(
 ) -> Result<Vec<Line>, AllocError>
     ensures { IfOk result (λ v. v.items ≡ council_lines C.Candidate.equal head candidates.now inputs.now bags.now) }
 {
-    let rota = TurnByTurn::new(head.n);
-    match judge(head.n, head.t, head.faulty, candidates, inputs, &rota) {
-        Err(fault) => one_line(heap, Line::Setup(fault)),
-        Ok(_) => {
-            let mut lines = bag_lines(heap, bags)?;
-            push_hosts(&mut lines, head.n, head.faulty)?;
-            Ok(lines)
-        }
+    let setup = Setup {
+        n: head.n,
+        t: head.t,
+        faulty: head.faulty,
+        candidates,
+        inputs,
+        rota: &TurnByTurn::new(head.n),
+    };
+    if let Err(refusal) = setup.judge() {
+        return one_line(heap, Line::Setup(refusal));
     }
+    let mut lines = bag_lines(heap, bags)?;
+    lines.extend((0..head.n).map(|host| host_line(head.faulty, host)))?;
+    Ok(lines)
 }
 
 // The lines behind the head, for one kind of candidate.
@@ -94,15 +87,15 @@ fn kind_lines<C: Candidate + Packed + Copy>(
     head: Head,
     bytes: &[u8],
 ) -> Result<Vec<Line>, AllocError>
-    ensures { IfOk result (λ v. v.items ≡ kind_lines C.Candidate.equal C.Packed.size C.Packed.unpacked head bytes.now) }
+    ensures { IfOk result (λ v. v.items ≡ kind_lines C.Candidate.equal C.Packed.SIZE C.Packed.unpacked head bytes.now) }
 {
-    let inputs_at = 4 + span_of::<C>(head.m);
-    let bags_at = inputs_at + span_of::<C>(head.n);
+    let inputs_at = 4 + C::SIZE * usize::from(head.m);
+    let bags_at = inputs_at + C::SIZE * usize::from(head.n);
     if bytes.len() < bags_at {
         return one_line(heap, Line::Short);
     }
-    let candidates: Vec<C> = read_list(heap, bytes, 4, head.m)?;
-    let inputs: Vec<C> = read_list(heap, bytes, inputs_at, head.n)?;
+    let candidates: Vec<C> = read_list(heap, &bytes[4..inputs_at])?;
+    let inputs: Vec<C> = read_list(heap, &bytes[inputs_at..bags_at])?;
     council_lines(heap, head, &candidates, &inputs, &bytes[bags_at..])
 }
 
@@ -120,23 +113,13 @@ fn lines_of(heap: Global, bytes: &[u8]) -> Result<Vec<Line>, AllocError>
     }
 }
 
-// Adds a line with its end.
-fn add_line(text: &mut String, line: Line) -> Result<(), AllocError>
-    ensures { OnOk result (string_bytes text.new ≡ string_bytes text.old ++ ended_line line) }
-{
-    match text.writeln(line) {
-        Ok(()) => Ok(()),
-        Err(_) => Err(AllocError),
-    }
-}
-
 // The text of lines, one below the other.
 fn text_of(heap: Global, lines: &[Line]) -> Result<String, AllocError>
     ensures { IfOk result (λ s. string_bytes s ≡ text_of lines.now) }
 {
     let mut text = String::new(heap);
     for line in lines {
-        add_line(&mut text, *line)?;
+        writeln!(text, "{line}")?;
     }
     Ok(text)
 }

@@ -29,10 +29,7 @@ impl fmt::Display for Line {
         match *self {
             Line::Sort => write!(f, "sort"),
             Line::Short => write!(f, "short"),
-            Line::Setup(refusal) => {
-                let number = refusal.number();
-                write!(f, "setup {number}")
-            }
+            Line::Setup(refusal) => write!(f, "setup {}", refusal.number()),
             Line::Unplayed(bags) => write!(f, "bags not played: {bags}"),
             Line::HostOpen(host) => write!(f, "{host} open"),
             Line::HostFaulty(host) => write!(f, "{host} faulty"),

@@ -1,16 +1,35 @@
 // Reading the setup of a rehearsal.
-ghost use Rattle.std.specs.Prelude.{◌≡◌, ℕ, ◌+◌, ◌*◌, ◌≤◌, List, length, IfOk};
-ghost use Rattle.rehearsal.specs.Reading.{head_in, kind_of, list_at, snapshot_at, term_at, unit_of};
+ghost use Rattle.std.specs.Prelude.{◌≡◌, ℕ, ◌+◌, ◌*◌, ◌/◌, ◌<◌, ◌≤◌, List, length, slice_index, IfOk, ok_or};
+ghost use Rattle.std.proofs.Common.{rules};
+ghost use Rattle.rehearsal.specs.Reading.{head_in, kind_of, list_at, snapshot_at, term_at};
 
 use candidate::snapshot::Snapshot;
 use candidate::term::{Term, TimeUnit};
 use std::alloc::{AllocError, Global};
 
 // The kinds of candidate that a rehearsal can have.
-#[derive(Clone, Copy)]
+#[derive(Clone, Copy, Debug, PartialEq, Eq)]
 pub enum Kind {
     Snapshots,
     Terms,
+}
+
+// A sort that is no kind of candidate.
+#[derive(Clone, Copy, Debug, PartialEq, Eq)]
+pub struct UnknownSort(pub u8);
+
+impl TryFrom<u8> for Kind {
+    type Error = UnknownSort;
+
+    ghost try_from_gives = { λ sort r. r ≡ ok_or (kind_of sort) (record { 0 = sort }) };
+
+    fn try_from(sort: u8) -> Result<Self, UnknownSort> {
+        match sort {
+            0 => Ok(Kind::Snapshots),
+            1 => Ok(Kind::Terms),
+            _ => Err(UnknownSort(sort)),
+        }
+    }
 }
 
 // How a rehearsal begins: N hosts, t of them faulty at most, M candidates, their kind if the sort is one, and the fault set.
@@ -23,123 +42,92 @@ pub struct Head {
     pub faulty: u16,
 }
 
-// The kind of candidate that a sort stands for.
-fn kind_of(sort: u8) -> Option<Kind>
-    ensures { result ≡ kind_of sort }
-{
-    match sort {
-        0 => Some(Kind::Snapshots),
-        1 => Some(Kind::Terms),
-        _ => None,
-    }
-}
-
 // The head, if its four bytes are there.
 pub(crate) fn read_head(bytes: &[u8]) -> Option<Head>
     ensures { result ≡ head_in bytes.now }
 {
-    if bytes.len() < 4 {
-        return None;
-    }
+    let &[first, second, high, low] = bytes.first_chunk::<4>()?;
     Some(Head {
-        n: bytes[0] / 8,
-        t: bytes[0] % 8,
-        m: bytes[1] / 4,
-        kind: kind_of(bytes[1] % 4),
-        faulty: u16::from_be_bytes([bytes[2], bytes[3]]),
+        n: first / 8,
+        t: first % 8,
+        m: second / 4,
+        kind: Kind::try_from(second % 4).ok(),
+        faulty: u16::from_be_bytes([high, low]),
     })
 }
 
 // A kind of candidate that is written in a fixed number of bytes.
 pub trait Packed: Sized {
-    ghost size: { ℕ };
+    ghost SIZE: { ℕ };
 
     ghost unpacked: { List ℕ → ℕ → Self };
 
     // How many bytes one takes.
-    fn packed_size() -> usize
-        ensures value { result ≡ size }
-        ensures bound { result ≤ 8 };
+    const SIZE: usize;
 
-    // What stands at a place of the bytes.
-    fn unpack(bytes: &[u8], at: usize) -> Self
-        requires { at + size ≤ length bytes.now }
-        ensures { result ≡ unpacked bytes.now at };
+    // The candidate that these bytes are.
+    fn unpack(bytes: &[u8]) -> Self
+        requires { length bytes.now ≡ SIZE }
+        ensures { result ≡ unpacked bytes.now 0 };
+
+    ghost some: { 0 < SIZE };
+
+    ghost few: { SIZE ≤ 8 };
+
+    // Only its own bytes are read.
+    ghost own: { (bs cs : List ℕ) (at place : ℕ) → ((i : ℕ) → i < SIZE → slice_index bs (at + i) ≡ slice_index cs (place + i)) → unpacked bs at ≡ unpacked cs place };
 }
 
 impl Packed for Snapshot {
-    ghost size = { 8 };
+    ghost SIZE = { 8 };
 
     ghost unpacked = { snapshot_at };
 
-    fn packed_size() -> usize {
-        8
-    }
+    ghost some = { Prim.search rules };
 
-    fn unpack(bytes: &[u8], at: usize) -> Snapshot {
+    ghost few = { Prim.search rules };
+
+    ghost own = { Prim.search rules };
+
+    const SIZE: usize = 8;
+
+    fn unpack(bytes: &[u8]) -> Snapshot {
         Snapshot {
-            manual: u32::from_be_bytes([bytes[at], bytes[at + 1], bytes[at + 2], bytes[at + 3]]),
-            snapshot: u32::from_be_bytes([
-                bytes[at + 4],
-                bytes[at + 5],
-                bytes[at + 6],
-                bytes[at + 7],
-            ]),
+            manual: u32::from_be_bytes(*bytes.first_chunk().unwrap()),
+            snapshot: u32::from_be_bytes(*bytes.last_chunk().unwrap()),
         }
-    }
-}
-
-// The unit that two bits stand for.
-fn unit_of(code: u8) -> TimeUnit
-    ensures { result ≡ unit_of code }
-{
-    match code {
-        0 => TimeUnit::Days,
-        1 => TimeUnit::Months,
-        2 => TimeUnit::Years,
-        _ => TimeUnit::UntilClose,
     }
 }
 
 impl Packed for Term {
-    ghost size = { 2 };
+    ghost SIZE = { 2 };
 
     ghost unpacked = { term_at };
 
-    fn packed_size() -> usize {
-        2
-    }
+    ghost some = { Prim.search rules };
 
-    fn unpack(bytes: &[u8], at: usize) -> Term {
-        let high = bytes[at];
+    ghost few = { Prim.search rules };
+
+    ghost own = { Prim.search rules };
+
+    const SIZE: usize = 2;
+
+    fn unpack(bytes: &[u8]) -> Term {
+        let &[high, low] = bytes.first_chunk::<2>().unwrap();
         Term {
-            unit: unit_of(high / 64),
-            count: u16::from(high % 64) * 256 + u16::from(bytes[at + 1]),
+            // every number of two bits is a unit's
+            unit: TimeUnit::try_from(high / 64).unwrap(),
+            count: u16::from_be_bytes([high % 64, low]),
         }
     }
 }
 
-// How many bytes so many candidates take.
-pub(crate) fn span_of<C: Packed>(count: u8) -> usize
-    ensures value { result ≡ C.Packed.size * count }
-    ensures bound { result ≤ 2040 }
+// The candidates that the bytes are, one after another.
+pub(crate) fn read_list<C: Packed + Drop>(heap: Global, bytes: &[u8]) -> Result<Vec<C>, AllocError>
+    ensures { IfOk result (λ v. v.items ≡ list_at C.Packed.SIZE C.Packed.unpacked bytes.now 0 (length bytes.now / C.Packed.SIZE)) }
 {
-    C::packed_size() * count as usize
-}
-
-// As many candidates as are asked for, one after another.
-pub(crate) fn read_list<C: Packed + Copy>(
-    heap: Global,
-    bytes: &[u8],
-    at: usize,
-    count: u8,
-) -> Result<Vec<C>, AllocError>
-    requires { at + C.Packed.size * count ≤ length bytes.now }
-    ensures { IfOk result (λ v. v.items ≡ list_at C.Packed.size C.Packed.unpacked bytes.now at count) }
-{
-    let mut all = Vec::new(heap);
-    for i in 0..count {
-        all.push(C::unpack(bytes, at + span_of::<C>(i)))?;
-    }
-    Ok(all)
+    bytes
+        .chunks_exact(C::SIZE)
+        .map(|chunk| C::unpack(chunk))
+        .collect(heap)
 }

@@ -1,6 +1,6 @@
 // Kinds of candidate, and verdicts.
 use candidate::snapshot::Snapshot;
-use candidate::term::{Term, TimeUnit};
+use candidate::term::{Term, TimeUnit, UnknownUnit};
 use candidate::verdict::Verdict;
 use candidate::{Candidate, Printable};
 use std::alloc::Global;
@@ -26,36 +26,26 @@ fn terms_of_every_unit(rt: HostRuntime) {
     agree(&rt, &years, &term(TimeUnit::Days, 730), false);
     agree(&rt, &years, &term(TimeUnit::Years, 3), false);
     agree(&rt, &years, &term(TimeUnit::UntilClose, 2), false);
-    agree(
-        &rt,
-        &term(TimeUnit::Days, 5),
-        &term(TimeUnit::Days, 5),
-        true,
-    );
-    agree(
-        &rt,
-        &term(TimeUnit::Days, 0),
-        &term(TimeUnit::Months, 0),
-        false,
-    );
-    agree(
-        &rt,
-        &term(TimeUnit::UntilClose, 0),
-        &term(TimeUnit::UntilClose, 9),
-        true,
-    );
-    agree(
-        &rt,
-        &term(TimeUnit::Years, 5462),
-        &term(TimeUnit::Months, 8),
-        false,
-    );
-    agree(
-        &rt,
-        &term(TimeUnit::Years, 16383),
-        &term(TimeUnit::Years, 16383),
-        true,
-    );
+    let five = term(TimeUnit::Days, 5);
+    agree(&rt, &five, &term(TimeUnit::Days, 5), true);
+    let none = term(TimeUnit::Days, 0);
+    agree(&rt, &none, &term(TimeUnit::Months, 0), false);
+    let close = term(TimeUnit::UntilClose, 0);
+    agree(&rt, &close, &term(TimeUnit::UntilClose, 9), true);
+    let long = term(TimeUnit::Years, 5462);
+    agree(&rt, &long, &term(TimeUnit::Months, 8), false);
+    let longest = term(TimeUnit::Years, 16383);
+    agree(&rt, &longest, &term(TimeUnit::Years, 16383), true);
+}
+
+#[test]
+fn units_by_their_numbers(rt: HostRuntime) {
+    assert_eq!(rt; TimeUnit::try_from(0), Ok(TimeUnit::Days));
+    assert_eq!(rt; TimeUnit::try_from(1), Ok(TimeUnit::Months));
+    assert_eq!(rt; TimeUnit::try_from(2), Ok(TimeUnit::Years));
+    assert_eq!(rt; TimeUnit::try_from(3), Ok(TimeUnit::UntilClose));
+    assert_eq!(rt; TimeUnit::try_from(4), Err(UnknownUnit(4)));
+    assert_eq!(rt; TimeUnit::try_from(255), Err(UnknownUnit(255)));
 }
 
 // A verdict on the candidate in phase 2047 prints its text, and the phase.
@@ -77,26 +67,16 @@ fn prints<C: Printable + Drop>(
 #[test]
 fn verdicts_are_printed(rt: HostRuntime) -> Result<(), Fail> {
     let heap = rt.alloc();
-    let manual = 7;
-    prints(
-        &rt,
-        heap,
-        Snapshot {
-            manual,
-            snapshot: 0,
-        },
-        "7 0 at 2047",
-    )?;
-    let manual = u32::MAX;
-    prints(
-        &rt,
-        heap,
-        Snapshot {
-            manual,
-            snapshot: 10,
-        },
-        "4294967295 10 at 2047",
-    )?;
+    let first = Snapshot {
+        manual: 7,
+        snapshot: 0,
+    };
+    prints(&rt, heap, first, "7 0 at 2047")?;
+    let last = Snapshot {
+        manual: u32::MAX,
+        snapshot: 10,
+    };
+    prints(&rt, heap, last, "4294967295 10 at 2047")?;
     prints(&rt, heap, term(TimeUnit::Days, 0), "0d at 2047")?;
     prints(&rt, heap, term(TimeUnit::Months, 24), "24m at 2047")?;
     prints(&rt, heap, term(TimeUnit::Years, 16383), "16383y at 2047")?;

@@ -6,16 +6,10 @@ use std::test::Fail;
 
 // A rehearsal of terms: the candidates are 0, 1, 2.. days, and each host puts in 0 days.
 fn of_days(heap: Global, n: u8, t: u8, m: u8, faulty: u16) -> Result<Vec<u8>, AllocError> {
-    let mut bytes = Vec::new(heap);
-    bytes.push(n % 32 * 8 + t % 8)?;
-    bytes.push(m % 64 * 4 + 1)?;
+    let mut bytes = vec![in heap; n % 32 * 8 + t % 8, m % 64 * 4 + 1]?;
     bytes.extend_from_slice(&faulty.to_be_bytes())?;
-    for days in 0..m {
-        bytes.extend_from_slice(&[0, days])?;
-    }
-    for _ in 0..n {
-        bytes.extend_from_slice(&[0, 0])?;
-    }
+    bytes.extend((0..m).flat_map(|days| [0, days]))?;
+    bytes.resize(bytes.len() + 2 * usize::from(n), 0)?;
     Ok(bytes)
 }
 
@@ -133,11 +127,11 @@ const ONE_TERM: [u8; 8] = [0x08, 0x05, 0, 0, 0x80, 2, 0x40, 24];
 
 #[test]
 fn every_cut_of_a_setup_is_short(rt: HostRuntime) -> Result<(), Fail> {
-    for cut in 0..20 {
-        prints(&rt, rt.alloc(), &ONE_SNAPSHOT[0..cut], "short\n")?;
+    for cut in 0..ONE_SNAPSHOT.len() {
+        prints(&rt, rt.alloc(), &ONE_SNAPSHOT[..cut], "short\n")?;
     }
-    for cut in 0..8 {
-        prints(&rt, rt.alloc(), &ONE_TERM[0..cut], "short\n")?;
+    for cut in 0..ONE_TERM.len() {
+        prints(&rt, rt.alloc(), &ONE_TERM[..cut], "short\n")?;
     }
     prints(&rt, rt.alloc(), &ONE_SNAPSHOT, ONE)?;
     prints(&rt, rt.alloc(), &ONE_TERM, ONE)
@@ -197,9 +191,7 @@ const SNAPSHOTS: [([u8; 8], &str); 6] = [
 // A head, and then small numbers in 32 bits each.
 fn of_snapshots(heap: Global, head: [u8; 4], numbers: &[u8]) -> Result<Vec<u8>, AllocError> {
     let mut bytes = head.to_vec(heap)?;
-    for number in numbers {
-        bytes.extend_from_slice(&[0, 0, 0, *number])?;
-    }
+    bytes.extend(numbers.iter().flat_map(|number| [0, 0, 0, *number]))?;
     Ok(bytes)
 }
 
