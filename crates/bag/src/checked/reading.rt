@@ -1,5 +1,6 @@
 // Reading a bag, and asking what it says.
-ghost use Rattle.std.specs.Prelude.{◌≡◌, ◌≤◌, length, IfOk};
+ghost use Rattle.std.specs.Prelude.{◌≡◌};
+ghost use Rattle.parts.specs.Reading.{Within};
 ghost use Rattle.entry.specs.Rounds.{body_in, most_bodies};
 ghost use Rattle.bag.specs.Bags.{bag_head, entries_from, no_mail, read_bag};
 ghost use Rattle.bag.specs.Checked.{checked, filed_mail, mail_in, said};
@@ -20,19 +21,18 @@ const HEAD_SIZE: usize = 3;
 // The head of a bag: how many entries there are.
 fn read_head(span: Span, awaited: Awaited) -> Result<Part<u8>, Fault>
     ensures answer { result ≡ bag_head awaited span.entry.bytes.now span.entry.offset }
-    ensures within { IfOk result (λ p. p.size ≤ length span.entry.bytes.now) }
+    ensures within { Within span.entry.bytes.now result }
 {
-    let word = span.triple(Layer::Bag)?;
-    if word >> 13 != u32::from(awaited.phase)
-        || (word >> 11) % 4 != u32::from(awaited.round.code())
-    {
+    let [a, b, count] = span.first_bytes::<HEAD_SIZE>(Layer::Bag)?;
+    let word = u16::from_be_bytes([a, b]);
+    if word >> 5 != awaited.phase || (word >> 3) % 4 != u16::from(awaited.round.code()) {
         return Err(span.fault(Refusal::OtherRound, Layer::Bag));
     }
-    if (word >> 8) % 8 != 0 {
+    if word % 8 != 0 {
         return Err(span.fault(Refusal::NotZero, Layer::Bag));
     }
     Ok(Part {
-        value: (word % 256) as u8,
+        value: count,
         size: HEAD_SIZE,
     })
 }
@@ -44,9 +44,10 @@ fn read_round(span: Span, count: u8, limits: Limits, round: Round) -> Result<Off
     let most = round.most_bodies();
     match round {
         Round::List => read_entries::<Lists>(span, count, limits, most),
-        Round::Nomination => read_entries::<Warrants>(span, count, limits, most),
         Round::Acknowledgement => read_entries::<Acknowledgements>(span, count, limits, most),
-        Round::Release => read_entries::<Warrants>(span, count, limits, most),
+        Round::Nomination | Round::Release => {
+            read_entries::<Warrants>(span, count, limits, most)
+        }
     }
 }
 
@@ -77,9 +78,8 @@ fn read_again_in(span: Span, limits: Limits, round: Round) -> Result<Entry, Faul
 {
     match round {
         Round::List => read_again::<Lists>(span, limits),
-        Round::Nomination => read_again::<Warrants>(span, limits),
         Round::Acknowledgement => read_again::<Acknowledgements>(span, limits),
-        Round::Release => read_again::<Warrants>(span, limits),
+        Round::Nomination | Round::Release => read_again::<Warrants>(span, limits),
     }
 }
 
