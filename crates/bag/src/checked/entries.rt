@@ -18,7 +18,7 @@ use parts::span::{Part, Span};
 
 // The head at the front of the span, of a pair that has no entry yet, in a round whose letters have at most so many bodies.
 fn read_head(span: Span, limits: Limits, most: u8, offsets: &Offsets) -> Result<Part<Head>, Fault>
-    ensures answer { result ≡ part 2 word layers.Entry (λ w. head_tests limits most (is_filed offsets.now.cells) (fields w)) fields span.entry.bytes.now span.entry.offset }
+    ensures answer { result ≡ part 2 word layers.Entry (λ w. head_tests limits most (is_filed offsets.now.rows) (fields w)) fields span.entry.bytes.now span.entry.offset }
     ensures within { Within span.entry.bytes.now result }
 {
     let front = Head::read(span)?;
@@ -37,7 +37,7 @@ fn read_entry<'a, B: BodySort>(
     most: u8,
     offsets: &Offsets,
 ) -> Result<Part<MetEntry<'a>>, Fault>
-    ensures answer { opened (met_of (giving B.BodySort.body (B.BodySort.reading limits))) result ≡ giving Some (entry limits most (giving B.BodySort.body (B.BodySort.reading limits)) (is_filed offsets.now.cells)) span.entry.bytes.now span.entry.offset }
+    ensures answer { opened (met_of (giving B.BodySort.body (B.BodySort.reading limits))) result ≡ giving Some (entry limits most (giving B.BodySort.body (B.BodySort.reading limits)) (is_filed offsets.now.rows)) span.entry.bytes.now span.entry.offset }
     ensures within { Within span.entry.bytes.now result }
 {
     let front = read_head(span, limits, most, offsets)?;

@@ -15,7 +15,7 @@ loop-k-init g c = rw c.new-offsets.ensures (begun c.args.limits c.args.most (giv
 pub returns-in_err-entry : goal.returns-in_err-entry
 returns-in_err-entry g c =
     let body = giving g.B.BodySort.body (g.B.BodySort.reading c.args.limits) in
-    let read = entry c.args.limits c.args.most body (is_filed c.loop-k.offsets.cells) in
+    let read = entry c.args.limits c.args.most body (is_filed c.loop-k.offsets.rows) in
     let e = opened_err (met_of body) read c.behind.result.bytes.now c.behind.result.offset c.in_err-entry.field-0.0 c.in_err-entry.ensures.answer in
     let y = read_behind read c.args.span.bytes.now c.args.span.offset c.loop-k.used c.behind.ensures.bytes c.behind.ensures.offset c.loop-k.invariant.to e in
     let t = refused c.loop-k.invariant (omega arith) y in
@@ -25,7 +25,7 @@ pub loop-k-preserved : goal.loop-k-preserved
 loop-k-preserved g c =
     let body = giving g.B.BodySort.body (g.B.BodySort.reading c.args.limits) in
     let bs = c.args.span.bytes.now in
-    let read = entry c.args.limits c.args.most body (is_filed c.loop-k.offsets.cells) in
+    let read = entry c.args.limits c.args.most body (is_filed c.loop-k.offsets.rows) in
     let m = c.in_ok-entry.ensures in
     let o = opened_ok (met_of body) read c.behind.result.bytes.now c.behind.result.offset c.in_ok-entry.entry m.answer in
     let y = read_behind read bs c.args.span.offset c.loop-k.used c.behind.ensures.bytes c.behind.ensures.offset c.loop-k.invariant.to o.whole_read in

@@ -14,5 +14,5 @@ returns-in-Err-clause-answer c =
     let h = sym c.in_ok-front.ensures.answer in
     let r = (part_read 2 word layers.Entry (λ w. []) fields bs at front h).is in
     let e = rw (c.is_some-is_met.ensures, c.get.ensures, r) at c.in-Err.ensures in
-    let t = part_refused 2 word layers.Entry (λ w. head_tests c.args.limits c.args.most (is_filed c.args.offsets.now.cells) (fields w)) fields bs at front c.in-Err.refusal h e in
+    let t = part_refused 2 word layers.Entry (λ w. head_tests c.args.limits c.args.most (is_filed c.args.offsets.now.rows) (fields w)) fields bs at front c.in-Err.refusal h e in
     search rules
