@@ -1,15 +1,12 @@
 -- An entry that was read and filed is read again as the same.
-use Rattle.std.proofs.Common.{◌≡◌, ℕ, ◌+◌, ◌/◌, ◌%◌, ◌<◌, ◌≤◌, min, cond, eqb, slice_set, List, [], length, get_or, drop, replicate, Some, None, Ok, Option, Result, sym, refl, ap, ◌∙◌, ⊎_elim, arith}
+use Rattle.std.proofs.Common.{◌≡◌, ℕ, ◌+◌, ◌<◌, ◌≤◌, min, cond, eqb, slice_set, List, [], length, get_or, drop, replicate, Some, None, Ok, Option, sym, refl, ap, ◌∙◌, ⊎_elim, arith}
 use mathlib.Core.Path.{fun_ext}
 use Rattle.std.proofs.lemmas.List.{length-set, length-replicate, get_or-set_other, get_or-replicate, get_or_past}
 use Rattle.std.proofs.lemmas.Bool.{cases_Bool, cases_eq, cases_lt, eq-eqb, ne_eqb, lt-ltb}
 use Rattle.std.proofs.lemmas.Bool.Decides.{nat_tests}
 use Rattle.std.proofs.lemmas.Grind.{get_or-set_at}
-use Rattle.std.specs.Result.{result_ok}
-use Rattle.fault.specs.declared.Fault.{Fault}
 use Rattle.parts.specs.declared.span.Part.{Part}
-use Rattle.parts.specs.Numbers.{word}
-use Rattle.parts.specs.Reading.{Reading, Tests, then}
+use Rattle.parts.specs.Reading.{Reading, Tests}
 use Rattle.entry.proofs.Headed.{headed_read, headed_is}
 use Rattle.body.specs.declared.kinds.Limits.{Limits}
 use Rattle.body.specs.declared.kinds.Body.{Body}
@@ -29,9 +26,7 @@ untested tests lim body bs at p k =
 pub pair_below : (tests : Head → Tests) (lim : Limits) (body : Reading Body) (bs : List ℕ) (at : ℕ) (p : Part Met) → headed tests lim body bs at ≡ Ok p → (p.value.recipient < 16) × (p.value.sender < 16)
 pair_below tests lim body bs at p k =
     let r = headed_read tests lim body bs at p k in
-    let a : p.value.recipient ≡ word bs 0 / 128 % 16 = ap (λ (q : Part Met). q.value.recipient) r.is in
-    let b : p.value.sender ≡ word bs 0 / 2048 % 16 = ap (λ (q : Part Met). q.value.sender) r.is in
-    (omega arith, omega arith)
+    (rw r.is (omega arith), rw r.is (omega arith))
 
 -- a table has 16 rows of 16 cells
 pub record Square (rows : Rows) : Type 0 where
@@ -80,14 +75,8 @@ mail_filed lim body bs at tests rows used p square to read =
     let j = p.value.sender in
     let b = pair_below tests lim body (drop used bs) (at + used) p read in
     let e : at + min used (length bs) ≡ at + used = omega arith in
-    let here : entry_at lim body bs at (Some used) ≡ Some p.value.entry =
-    ap (λ (to : ℕ). result_ok (said lim body (drop used bs) to)) e ∙ ap (λ (r : Result (Part Met) Fault). result_ok (then r (λ q. Ok q.value.entry))) (untested tests lim body (drop used bs) (at + used) p read) in
-    fun_ext (λ x. fun_ext (λ y.
-    ap (entry_at lim body bs at) (offset_filed rows i j used square b.0 b.1 x y)
-    ∙ ⊎_elim
-    (λ s. rw s here)
-    (λ n. rw n)
-    (cases_Bool (same_pair i j x y))))
+    let here : entry_at lim body bs at (Some used) ≡ Some p.value.entry = rw (e, untested tests lim body (drop used bs) (at + used) p read) in
+    fun_ext (λ x. fun_ext (λ y. rw (offset_filed rows i j used square b.0 b.1 x y) (⊎_elim (λ s. rw s here) (λ n. rw n) (cases_Bool (same_pair i j x y)))))
 
 -- at first no offset is filed
 pub none_filed : (x y : ℕ) → ◌≡◌ {A = Option ℕ} (offset_of no_offsets x y) None

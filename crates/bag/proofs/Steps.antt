@@ -1,5 +1,5 @@
 -- One entry's turn among the entries of a bag.
-use Rattle.std.proofs.Common.{◌≡◌, ℕ, suc, ◌+◌, ◌-◌, ◌<◌, ◌≤◌, Bool, true, false, cond, ltb, List, length, drop, is_some, Some, Ok, Err, Option, sym, refl, ap, ◌∙◌, arith}
+use Rattle.std.proofs.Common.{◌≡◌, ℕ, suc, ◌+◌, ◌-◌, ◌<◌, ◌≤◌, Bool, true, false, cond, List, length, drop, is_some, Some, Ok, Err, Option, sym, refl, ap, ◌∙◌, arith}
 use mathlib.Core.Path.{fun_ext}
 use Rattle.std.proofs.lemmas.List.{drop-drop, length-drop}
 use Rattle.std.proofs.lemmas.Bool.Decides.{nat_tests}
@@ -27,12 +27,12 @@ module _ (lim : Limits) (most : ℕ) (body : Reading Body) (count k : ℕ) (mail
   -- no byte is left
   ended : k ≡ count → length bs ≡ 0 → entries_from lim most body (count - k) mail bs at ≡ Ok mail
   unfolding entries_from
-  ended e n = let z : count - k ≡ 0 = omega arith in let b : ltb 0 (length bs) ≡ false = grind (arith, nat_tests) in rw (z, b)
+  ended e n = let z : count - k ≡ 0 = omega arith in rw z (grind (arith, nat_tests))
 
   -- bytes are left
   left_over_turn : k ≡ count → 0 < length bs → entries_from lim most body (count - k) mail bs at ≡ Err (fault_at layers.Bag at LeftOver)
   unfolding entries_from
-  left_over_turn e n = let z : count - k ≡ 0 = omega arith in let b : ltb 0 (length bs) ≡ true = grind (arith, nat_tests) in rw (z, b)
+  left_over_turn e n = let z : count - k ≡ 0 = omega arith in rw z (grind (arith, nat_tests))
 
 -- before entry k: what was filed is what reaches whom so far, and with what is left it gives the whole
 pub record Left (lim : Limits) (most : ℕ) (body : Reading Body) (bs : List ℕ) (at count k : ℕ) (rows : Rows) (used : ℕ) : Type 0 where

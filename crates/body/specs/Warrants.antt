@@ -1,8 +1,8 @@
 -- A warrant depends on the bytes that it takes, and fits.
-use Rattle.std.specs.Prelude.{◌≡◌, ℕ, zero, suc, ◌+◌, ◌<◌, Bool, true, false, cond, List, length, replicate, Ok, slice_index, refl}
+use Rattle.std.specs.Prelude.{◌≡◌, ℕ, zero, suc, ◌+◌, ◌<◌, true, false, List, length, replicate, Ok, slice_index}
 use Rattle.std.proofs.Common.{⊎_elim, arith}
 use Rattle.std.proofs.lemmas.List.{set_past, get_or-replicate, get_or_past}
-use Rattle.std.proofs.lemmas.Bool.{cases_lt}
+use Rattle.std.proofs.lemmas.Bool.{cases_Bool, cases_lt}
 use Rattle.std.proofs.lemmas.Bool.Decides.{nat_tests}
 use Rattle.std.proofs.lemmas.Nat.{pow_pos}
 use Rattle.std.proofs.lemmas.Grind.{elements, common_steps}
@@ -45,16 +45,12 @@ list_fits lim bs at p h = grind (arith, nat_tests)
 fits_lists : (lim : Limits) (n j : ℕ) (w : Warrant) (bs : List ℕ) (at : ℕ) (p : Part Warrant) → lists_from lim n j w bs at ≡ Ok p → WarrantFits lim w → WarrantFits lim p.value
 unfolding lists_from
 fits_lists lim zero j w bs at p h f = let e : p.value ≡ w = cc in rw e f
-fits_lists lim (suc n) j w bs at p h f = go (fits_lists lim n (j + 1)) (has w.signers j) refl h
-  where
-    go : ((v : Warrant) (bs : List ℕ) (at : ℕ) (p : Part Warrant) → lists_from lim n (j + 1) v bs at ≡ Ok p → WarrantFits lim v → WarrantFits lim p.value)
-        → (b : Bool) → has w.signers j ≡ b
-        → cond b (and_then (list lim) (λ l. lists_from lim n (j + 1) (with_list w j l))) (lists_from lim n (j + 1) w) bs at ≡ Ok p → WarrantFits lim p.value
-    go ih true s k =
-        let r = both_read (list lim) (λ l. lists_from lim n (j + 1) (with_list w j l)) bs at p k in
-        let v = ih (with_list w j r.fore.value) _ _ r.aft r.aft_read (fits_more lim w j r.fore.value s (list_fits lim bs at r.fore r.fore_read) f) in
-        rw r.is v
-    go ih false s k = ih w bs at p k f
+fits_lists lim (suc n) j w bs at p h f = ⊎_elim
+    (λ (s : has w.signers j ≡ true).
+    let r = both_read (list lim) (λ l. lists_from lim n (j + 1) (with_list w j l)) bs at p (rw s at h) in
+    rw r.is (fits_lists lim n (j + 1) (with_list w j r.fore.value) _ _ r.aft r.aft_read (fits_more lim w j r.fore.value s (list_fits lim bs at r.fore r.fore_read) f)))
+    (λ (s : has w.signers j ≡ false). fits_lists lim n (j + 1) w bs at p (rw s at h) f)
+    (cases_Bool (has w.signers j))
 
 -- no list yet
 no_list : (j : ℕ) → ◌≡◌ {A = ℕ} (slice_index (replicate 16 0) j) 0

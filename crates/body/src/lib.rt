@@ -29,7 +29,7 @@ pub trait BodySort {
         ensures answer { result ≡ reading limits span.entry.bytes.now span.entry.offset }
         ensures within { Within span.entry.bytes.now result };
 
-    // What was read, as a body of any sort.
+    // What was read, as a body of any sort. No `From`: a number alone does not say which body it is.
     fn into_body(read: Self::Read) -> Body
         ensures { result ≡ body read };
 

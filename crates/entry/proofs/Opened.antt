@@ -1,15 +1,13 @@
 -- What an entry that was met in a bag says of what was read there.
-use Rattle.std.proofs.Common.{◌≡◌, ℕ, List, Some, None, Ok, Err, Option, Result, sym, ap}
-use Rattle.std.specs.Option.{option_map}
+use Rattle.std.proofs.Common.{◌≡◌, ℕ, List, Some, Ok, Err, Option, sym, ap, arith}
 use Rattle.fault.specs.declared.Fault.{Fault}
 use Rattle.parts.specs.declared.span.Part.{Part}
-use Rattle.parts.specs.Reading.{Reading, then, sized, giving}
+use Rattle.parts.specs.Reading.{Reading, sized, giving}
 use Rattle.parts.proofs.Settled.{given_read}
 use Rattle.body.specs.declared.kinds.Body.{Body}
-use Rattle.entry.specs.declared.letter.Entry.{Entry}
 use Rattle.entry.specs.declared.letter.MetEntry.{MetEntry}
-use Rattle.entry.specs.Entries.{Met, met}
-use Rattle.entry.specs.Raw.{entry_in, met_of, opened}
+use Rattle.entry.specs.Entries.{Met}
+use Rattle.entry.specs.Raw.{met_of, opened}
 
 -- what was read, and as what it was met
 pub record Meant {A B : Type 0} (says : A → Option B) (read : Reading B) (bs : List ℕ) (at : ℕ) (p : Part A) : Type 0 where
@@ -25,16 +23,8 @@ module _ {A B : Type 0} (says : A → Option B) (read : Reading B) (bs : List �
       record { whole = g.0; whole_read = sym g.1; size = sym (ap (λ (q : Part (Option B)). q.size) g.2); said = ap (λ (q : Part (Option B)). q.value) g.2 }
 
   pub opened_err : (e : Fault) → opened says (Err e) ≡ giving Some read bs at → Err e ≡ read bs at
-  opened_err e h = go (read bs at) h
-    where
-      go : (r : Result (Part B) Fault) → Err e ≡ then r (λ a. Ok (sized (Some a.value) a.size)) → Err e ≡ r
-      go (Ok m) k = cc
-      go (Err x) k = cc
+  opened_err e h = grind arith
 
 -- an entry is of its own pair
 pub pair_of : (body : Reading Body) (e : MetEntry) (m : Met) → met_of body e ≡ Some m → (e.recipient ≡ m.recipient) × (e.sender ≡ m.sender)
-pair_of body e m h = go (entry_in body e.entry) h
-  where
-    go : (o : Option Entry) → option_map (met e.recipient e.sender) o ≡ Some m → (e.recipient ≡ m.recipient) × (e.sender ≡ m.sender)
-    go None k = cc
-    go (Some x) k = (cc, cc)
+pair_of body e m h = (grind arith, grind arith)

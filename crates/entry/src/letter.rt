@@ -2,7 +2,7 @@
 use body::kinds::Body;
 use parts::span::Span;
 
-// The bodies of a letter: at most two by type, and none where the one before it is missing, as an array of options could say.
+// The bodies of a letter, at most two by type. An array of options could leave out the first of two.
 #[derive(Clone, Copy)]
 pub enum Bodies {
     None,
@@ -19,7 +19,7 @@ pub struct Letter {
 }
 
 // How a letter reaches a host: an honest sender's own letter is carried, and a faulty sender's is forged, so that it says anything.
-// Not an `Option<Letter>`: that a carried entry is an entry, and none is none, is a form that was asked for.
+// Not an `Option<Letter>`: this enum is a form that was asked for.
 #[derive(Clone, Copy)]
 pub enum Entry {
     Carried,
@@ -38,7 +38,7 @@ pub enum RawEntry<'a> {
     },
 }
 
-// The same, with whom it is for and whose it is.
+// An entry that was met, with whom it is for and whose it is.
 #[derive(Clone, Copy)]
 pub struct MetEntry<'a> {
     pub recipient: u8,

@@ -24,6 +24,7 @@ fn read_head(span: Span, limits: Limits, most: u8, offsets: &Offsets) -> Result<
     let front = Head::read(span)?;
     let head = front.value;
     let is_met = offsets.get(head.recipient, head.sender).is_some();
+    // Not `map_err`: of a closure that borrows a span the check infers no result.
     if let Err(refusal) = head.check(limits, most, is_met) {
         return Err(span.fault(refusal, Layer::Entry));
     }
@@ -63,7 +64,7 @@ pub(crate) fn read_again<B: BodySort>(span: Span, limits: Limits) -> Result<Entr
     decode::<B>(&content.value, limits)
 }
 
-// Where the entries begin that stand one behind the other.
+// Where the entries begin that stand one behind the other. The limits are the council's, and the most bodies the round's.
 pub(crate) fn read_entries<B: BodySort>(
     span: Span,
     count: u8,

@@ -37,7 +37,7 @@ fn read_head(span: Span, awaited: Awaited) -> Result<Part<u8>, Fault>
     })
 }
 
-// Where the entries of a round begin.
+// Where the entries of a round begin. This switch and the one below are no plainer in one place, which takes a trait with a generic method for two callers.
 fn read_round(span: Span, count: u8, limits: Limits, round: Round) -> Result<Offsets, Fault>
     ensures { filed_mail limits (body_in round limits) span.entry.bytes.now span.entry.offset result ≡ entries_from limits (most_bodies round) (body_in round limits) count no_mail span.entry.bytes.now span.entry.offset }
 {
@@ -84,7 +84,7 @@ fn read_again_in(span: Span, limits: Limits, round: Round) -> Result<Entry, Faul
 }
 
 impl CheckedBag<'_> {
-    // What the bag has for a recipient from a sender; nothing for a host that there is not.
+    // What the bag has for a recipient from a sender; nothing for a host that there is not. `ok` drops no fault: an entry that was read is read again as the same.
     pub fn entry(&self, recipient: u8, sender: u8) -> Option<Entry>
         ensures { result ≡ mail_in self.now recipient sender }
     {

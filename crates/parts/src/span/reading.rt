@@ -12,7 +12,7 @@ impl<'a> Span<'a> {
         ensures bytes { result.bytes.now ≡ bytes.now }
         ensures offset { result.offset ≡ 0 }
     {
-        Span { bytes, offset: 0 }
+        Span::at(bytes, 0)
     }
 
     // Bytes that begin at the offset; one so large that they would end past all numbers is taken for the largest that they can have.

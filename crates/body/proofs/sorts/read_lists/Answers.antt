@@ -2,12 +2,9 @@ use Rattle.std.proofs.Common.{sym, ◌∙◌, arith, rules}
 use Rattle.std.proofs.lemmas.List.{length-drop, set-get_or}
 use Rattle.parts.proofs.Settled.{read_behind}
 use Rattle.body.specs.Bodies.{list}
-use Rattle.body.proofs.Steps.{begun, refused, signed, passed, done}
+use Rattle.body.proofs.Steps.{refused, signed, passed, done}
 use Rattle.body.proofs.sorts.read_lists.Goals as goal
 use Rattle.body.proofs.sorts.read_lists.Goals.{then-has_host+in_ok-read, else-has_host}
-
-pub loop-host-init : goal.loop-host-init
-loop-host-init c = begun c.args.limits c.args.span.bytes.now c.args.span.offset c.args.front
 
 pub returns-in_err-read : goal.returns-in_err-read
 returns-in_err-read c =
