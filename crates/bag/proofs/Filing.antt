@@ -1,14 +1,12 @@
 -- An entry that was read and filed is read again as the same.
-use Rattle.std.proofs.Common.{◌≡◌, ℕ, ◌+◌, ◌/◌, ◌%◌, ◌<◌, ◌≤◌, min, true, false, cond, ◌≢◌, List, [], length, get_or, drop, replicate, Some, None, Ok, Option, Result, sym, refl, ap, ◌∙◌, ⊎_elim, arith}
+use Rattle.std.proofs.Common.{◌≡◌, ℕ, ◌+◌, ◌<◌, ◌≤◌, min, cond, eqb, slice_set, List, [], length, get_or, drop, replicate, Some, None, Ok, Option, sym, refl, ap, ◌∙◌, ⊎_elim, arith}
 use mathlib.Core.Path.{fun_ext}
-use Rattle.std.proofs.lemmas.List.{get_or-set_same, get_or-set_other, get_or-replicate, get_or_past}
-use Rattle.std.proofs.lemmas.Bool.{cases_Bool, cases_lt, lt-ltb, true≢false}
+use Rattle.std.proofs.lemmas.List.{length-set, length-replicate, get_or-set_other, get_or-replicate, get_or_past}
+use Rattle.std.proofs.lemmas.Bool.{cases_Bool, cases_eq, cases_lt, eq-eqb, ne_eqb, lt-ltb}
 use Rattle.std.proofs.lemmas.Bool.Decides.{nat_tests}
-use Rattle.std.specs.Result.{result_ok}
-use Rattle.fault.specs.declared.Fault.{Fault}
+use Rattle.std.proofs.lemmas.Grind.{get_or-set_at}
 use Rattle.parts.specs.declared.span.Part.{Part}
-use Rattle.parts.specs.Numbers.{word}
-use Rattle.parts.specs.Reading.{Reading, Tests, then}
+use Rattle.parts.specs.Reading.{Reading, Tests}
 use Rattle.entry.proofs.Headed.{headed_read, headed_is}
 use Rattle.body.specs.declared.kinds.Limits.{Limits}
 use Rattle.body.specs.declared.kinds.Body.{Body}
@@ -16,8 +14,7 @@ use Rattle.entry.specs.declared.letter.Head.{Head}
 use Rattle.entry.specs.Entries.{Met, headed}
 use Rattle.bag.specs.Bags.{no_mail, same_pair, with_entry}
 use Rattle.bag.specs.Checked.{said, entry_at, mail_at}
-use Rattle.bag.specs.Offsets.{is_pair, cell_of, offset_of, filed}
-use Rattle.bag.proofs.Mails.{cases_pair, same_pair_lem}
+use Rattle.bag.specs.Offsets.{Rows, no_offsets, row_of, offset_of, filed}
 
 -- an entry whose head passed its tests is read without them too
 untested : (tests : Head → Tests) (lim : Limits) (body : Reading Body) (bs : List ℕ) (at : ℕ) (p : Part Met) → headed tests lim body bs at ≡ Ok p → headed (λ h. []) lim body bs at ≡ Ok p
@@ -29,65 +26,65 @@ untested tests lim body bs at p k =
 pub pair_below : (tests : Head → Tests) (lim : Limits) (body : Reading Body) (bs : List ℕ) (at : ℕ) (p : Part Met) → headed tests lim body bs at ≡ Ok p → (p.value.recipient < 16) × (p.value.sender < 16)
 pair_below tests lim body bs at p k =
     let r = headed_read tests lim body bs at p k in
-    let a : p.value.recipient ≡ word bs 0 / 128 % 16 = ap (λ (q : Part Met). q.value.recipient) r.is in
-    let b : p.value.sender ≡ word bs 0 / 2048 % 16 = ap (λ (q : Part Met). q.value.sender) r.is in
-    (omega arith, omega arith)
+    (rw r.is (omega arith), rw r.is (omega arith))
 
--- two pairs have two cells
-cell_one : (i j x y : ℕ) → j < 16 → y < 16 → cell_of x y ≡ cell_of i j → (i ≡ x) × (j ≡ y)
-cell_one i j x y a b e = (omega arith, omega arith)
+-- a table has 16 rows of 16 cells
+pub record Square (rows : Rows) : Type 0 where
+  pub high : length rows ≡ 16
+  pub wide : (i : ℕ) → i < 16 → length (row_of rows i) ≡ 16
 
--- a pair that a mask can name
-pair_is : (i j : ℕ) → i < 16 → j < 16 → is_pair i j ≡ true
-pair_is i j a b = let l = lt-ltb i 16 a in let m = lt-ltb j 16 b in rw (l, m)
+-- as the first table has
+pub square_first : Square no_offsets
+square_first = record { high = length-replicate 16 (replicate {A = Option ℕ} 16 None); wide = λ i l. rw (get_or-replicate 16 i (replicate {A = Option ℕ} 16 None) [] l) (length-replicate {A = Option ℕ} 16 None) }
 
--- an offset more
-pub offset_filed : (cells : List (Option ℕ)) (i j used : ℕ) → length cells ≡ 256 → i < 16 → j < 16 → (x y : ℕ)
-    → offset_of (filed cells i j used) x y ≡ cond (same_pair i j x y) (Some used) (offset_of cells x y)
-offset_filed cells i j used long a b x y =
-    let p = pair_is i j a b in
-    ⊎_elim
-    (λ s.
-    let h : is_pair x y ≡ true = pair_is x y (omega (arith, s.0)) (omega (arith, s.1)) in
-    let g = get_or-set_same cells (cell_of i j) (Some used) None (omega arith) in
-    let z : cell_of x y ≡ cell_of i j = omega (arith, s.0, s.1) in
-    rw (p, h, s.2, z) g)
-    (λ n. ⊎_elim
-    (λ (h : is_pair x y ≡ true).
-    let l : (x < 16) × (y < 16) = (grind (arith, nat_tests), grind (arith, nat_tests)) in
-    let o : cell_of x y ≢ cell_of i j = λ q. let c = cell_one i j x y b l.1 q in true≢false (sym (same_pair_lem i j x y c.0 c.1) ∙ n) in
-    let g = get_or-set_other cells (cell_of i j) (cell_of x y) (Some used) None o in
-    simp (p, h, n) g)
-    (λ (h : is_pair x y ≡ false). simp (h, n))
-    (cases_Bool (is_pair x y)))
-    (cases_pair i j x y)
+-- an element that is set
+index_set : {A : Type 0} (xs : List A) (i k : ℕ) (x d : A) → i < length xs → get_or (slice_set xs i x) k d ≡ cond (eqb i k) x (get_or xs k d)
+index_set xs i k x d l = grind (arith, get_or-set_at, get_or-set_other, nat_tests)
+
+module _ (rows : Rows) (i j used : ℕ) (s : Square rows) (a : i < 16) (b : j < 16) where
+  -- the row of a recipient
+  row_filed : (x : ℕ) → row_of (filed rows i j used) x ≡ cond (eqb i x) (slice_set (row_of rows i) j (Some used)) (row_of rows x)
+  row_filed x =
+      let l = lt-ltb i 16 a in
+      let m = lt-ltb j 16 b in
+      rw (l, m) (index_set rows i x (slice_set (row_of rows i) j (Some used)) [] (omega (arith, s.high)))
+
+  -- a table keeps its form
+  pub square_filed : Square (filed rows i j used)
+  square_filed = record {
+    high = grind (arith, length-set, s.high);
+    wide = λ x l. rw (row_filed x) (grind (arith, length-set, s.wide i a, s.wide x l));
+  }
+
+  -- an offset more
+  pub offset_filed : (x y : ℕ) → offset_of (filed rows i j used) x y ≡ cond (same_pair i j x y) (Some used) (offset_of rows x y)
+  offset_filed x y =
+      let f = index_set (row_of rows i) j y (Some used) None (omega (arith, s.wide i a)) in
+      rw (row_filed x) (⊎_elim
+      (λ (q : i ≡ x). let h = eq-eqb i x q in rw (h, ← q) f)
+      (λ ne. let h = ne_eqb i x ne in rw h)
+      (cases_eq i x))
 
 -- an entry that was read where it is filed is one entry more
-pub mail_filed : (lim : Limits) (body : Reading Body) (bs : List ℕ) (at : ℕ) (tests : Head → Tests) (cells : List (Option ℕ)) (used : ℕ) (p : Part Met)
-    → length cells ≡ 256 → used ≤ length bs → headed tests lim body (drop used bs) (at + used) ≡ Ok p
-    → mail_at lim body bs at (filed cells p.value.recipient p.value.sender used) ≡ with_entry (mail_at lim body bs at cells) p.value
+pub mail_filed : (lim : Limits) (body : Reading Body) (bs : List ℕ) (at : ℕ) (tests : Head → Tests) (rows : Rows) (used : ℕ) (p : Part Met)
+    → Square rows → used ≤ length bs → headed tests lim body (drop used bs) (at + used) ≡ Ok p
+    → mail_at lim body bs at (filed rows p.value.recipient p.value.sender used) ≡ with_entry (mail_at lim body bs at rows) p.value
 unfolding said
-mail_filed lim body bs at tests cells used p long to read =
+mail_filed lim body bs at tests rows used p square to read =
     let i = p.value.recipient in
     let j = p.value.sender in
     let b = pair_below tests lim body (drop used bs) (at + used) p read in
     let e : at + min used (length bs) ≡ at + used = omega arith in
-    let here : entry_at lim body bs at (Some used) ≡ Some p.value.entry =
-    ap (λ (to : ℕ). result_ok (said lim body (drop used bs) to)) e ∙ ap (λ (r : Result (Part Met) Fault). result_ok (then r (λ q. Ok q.value.entry))) (untested tests lim body (drop used bs) (at + used) p read) in
-    fun_ext (λ x. fun_ext (λ y.
-    ap (entry_at lim body bs at) (offset_filed cells i j used long b.0 b.1 x y)
-    ∙ ⊎_elim
-    (λ s. rw s.2 here)
-    (λ n. rw n)
-    (cases_pair i j x y)))
+    let here : entry_at lim body bs at (Some used) ≡ Some p.value.entry = rw (e, untested tests lim body (drop used bs) (at + used) p read) in
+    fun_ext (λ x. fun_ext (λ y. rw (offset_filed rows i j used square b.0 b.1 x y) (⊎_elim (λ s. rw s here) (λ n. rw n) (cases_Bool (same_pair i j x y)))))
 
 -- at first no offset is filed
-pub none_filed : (x y : ℕ) → ◌≡◌ {A = Option ℕ} (offset_of (replicate 256 None) x y) None
-none_filed x y = ⊎_elim (λ (h : is_pair x y ≡ true). simp h (empty (cell_of x y))) (λ (h : is_pair x y ≡ false). simp h) (cases_Bool (is_pair x y))
+pub none_filed : (x y : ℕ) → ◌≡◌ {A = Option ℕ} (offset_of no_offsets x y) None
+none_filed x y = ⊎_elim (λ l. rw (get_or-replicate 16 x (replicate {A = Option ℕ} 16 None) [] l) (empty y)) (λ l. rw (get_or_past no_offsets x [] l)) (cases_lt x 16)
   where
-    empty : (k : ℕ) → ◌≡◌ {A = Option ℕ} (get_or (replicate 256 None) k None) None
-    empty k = ⊎_elim (λ l. get_or-replicate 256 k None None l) (λ l. get_or_past (replicate 256 None) k None l) (cases_lt k 256)
+    empty : (k : ℕ) → ◌≡◌ {A = Option ℕ} (get_or (replicate 16 None) k None) None
+    empty k = ⊎_elim (λ l. get_or-replicate 16 k None None l) (λ l. get_or_past (replicate 16 None) k None l) (cases_lt k 16)
 
 -- so that nothing reaches anybody
-pub nothing_filed : (lim : Limits) (body : Reading Body) (bs : List ℕ) (at : ℕ) → mail_at lim body bs at (replicate 256 None) ≡ no_mail
+pub nothing_filed : (lim : Limits) (body : Reading Body) (bs : List ℕ) (at : ℕ) → mail_at lim body bs at no_offsets ≡ no_mail
 nothing_filed lim body bs at = fun_ext (λ x. fun_ext (λ y. ap (entry_at lim body bs at) (none_filed x y)))

@@ -1,3 +1,2 @@
-pub mod Mails
 pub mod Filing
 pub mod Steps

@@ -11,7 +11,7 @@ use Rattle.entry.specs.Entries.{headed}
 use Rattle.bag.specs.declared.checked.CheckedBag.{CheckedBag}
 use Rattle.bag.specs.declared.offsets.Offsets.{Offsets}
 use Rattle.bag.specs.Bags.{Mail}
-use Rattle.bag.specs.Offsets.{offset_of}
+use Rattle.bag.specs.Offsets.{Rows, offset_of}
 
 -- what an entry says, without the tests of its head
 unfoldable pub said : Limits → Reading Body → List ℕ → ℕ → Result Entry Fault
@@ -23,21 +23,21 @@ entry_at lim body bs at None = None
 entry_at lim body bs at (Some off) = result_ok (said lim body (drop off bs) (at + min off (length bs)))
 
 -- what reaches whom, by where the entries begin
-abbrev pub mail_at : Limits → Reading Body → List ℕ → ℕ → List (Option ℕ) → Mail
-mail_at lim body bs at cells i j = entry_at lim body bs at (offset_of cells i j)
+abbrev pub mail_at : Limits → Reading Body → List ℕ → ℕ → Rows → Mail
+mail_at lim body bs at rows i j = entry_at lim body bs at (offset_of rows i j)
 
 -- the pair's entry was filed
-abbrev pub is_filed : List (Option ℕ) → ℕ → ℕ → Bool
-is_filed cells i j = is_some (offset_of cells i j)
+abbrev pub is_filed : Rows → ℕ → ℕ → Bool
+is_filed rows i j = is_some (offset_of rows i j)
 
 -- what was filed, as what reaches whom
 abbrev pub filed_mail : Limits → Reading Body → List ℕ → ℕ → Result Offsets Fault → Result Mail Fault
-filed_mail lim body bs at (Ok o) = Ok (mail_at lim body bs at o.cells)
+filed_mail lim body bs at (Ok o) = Ok (mail_at lim body bs at o.rows)
 filed_mail lim body bs at (Err e) = Err e
 
 -- what a checked bag says: its entries begin behind its head of three bytes
 abbrev pub mail_in : CheckedBag → Mail
-mail_in bag = mail_at bag.limits (body_in bag.round bag.limits) (drop 3 bag.bytes.now) (min 3 (length bag.bytes.now)) bag.offsets.cells
+mail_in bag = mail_at bag.limits (body_in bag.round bag.limits) (drop 3 bag.bytes.now) (min 3 (length bag.bytes.now)) bag.offsets.rows
 
 -- the same of an answer
 abbrev pub checked : Result CheckedBag Fault → Result Mail Fault

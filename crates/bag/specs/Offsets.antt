@@ -1,18 +1,26 @@
--- A table with a cell for each pair of hosts.
-use Rattle.std.specs.Prelude.{ℕ, ◌+◌, ◌*◌, Bool, cond, ◌&&◌, List, Some, None, Option, nat_lt, slice_index_or, slice_set}
+-- A table with a row for each recipient, and in it a cell for each sender.
+use Rattle.std.specs.Prelude.{ℕ, Bool, if◌then◌else◌, ◌&&◌, List, [], replicate, Some, None, Option, nat_lt, slice_index_or, slice_set}
 
 -- the pair is of hosts that a mask can name
 abbrev pub is_pair : ℕ → ℕ → Bool
 is_pair i j = nat_lt i 16 && nat_lt j 16
 
--- the cell of a recipient and a sender
-abbrev pub cell_of : ℕ → ℕ → ℕ
-cell_of i j = i * 16 + j
+-- the rows of a table
+abbrev pub Rows : Type 0
+Rows = List (List (Option ℕ))
 
--- what is in it
-abbrev pub offset_of : List (Option ℕ) → ℕ → ℕ → Option ℕ
-offset_of cells i j = cond (is_pair i j) (slice_index_or cells (cell_of i j) None) None
+-- the table with no offset, for the 16 hosts that a mask can name
+abbrev pub no_offsets : Rows
+no_offsets = replicate 16 (replicate 16 None)
 
--- the table with an offset more
-abbrev pub filed : List (Option ℕ) → ℕ → ℕ → ℕ → List (Option ℕ)
-filed cells i j at = cond (is_pair i j) (slice_set cells (cell_of i j) (Some at)) cells
+-- the row of a recipient; of a host that no mask can name, no cells
+abbrev pub row_of : Rows → ℕ → List (Option ℕ)
+row_of rows i = slice_index_or rows i []
+
+-- what is in the cell of a recipient and a sender
+abbrev pub offset_of : Rows → ℕ → ℕ → Option ℕ
+offset_of rows i j = slice_index_or (row_of rows i) j None
+
+-- the table with an offset more; for a host that no mask can name, as it was
+abbrev pub filed : Rows → ℕ → ℕ → ℕ → Rows
+filed rows i j at = if is_pair i j then slice_set rows i (slice_set (row_of rows i) j (Some at)) else rows

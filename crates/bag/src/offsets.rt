@@ -1,48 +1,41 @@
 // Where the entries of a bag begin.
-ghost use Rattle.std.specs.Prelude.{◌≡◌, replicate, None};
-ghost use Rattle.bag.specs.Offsets.{cell_of, filed, offset_of};
+ghost use Rattle.std.specs.Prelude.{◌≡◌};
+ghost use Rattle.bag.specs.Offsets.{filed, no_offsets, offset_of};
 
-// A set of hosts has 16 at most.
-const HOSTS: u8 = 16;
+// The most hosts that a set of hosts can name.
+const HOSTS: usize = 16;
 
-// How many bytes stand between the bag's head and each pair's entry, in a cell for each recipient and sender.
+// How many bytes stand between the bag's head and each pair's entry: a row for each recipient that a set of hosts can name, with a cell for each sender.
 #[derive(Clone, Copy)]
 pub struct Offsets {
-    cells: [Option<usize>; 256],
-}
-
-// Where the cell of a pair is.
-fn cell_of(recipient: u8, sender: u8) -> usize
-    ensures { result ≡ cell_of recipient sender }
-{
-    usize::from(recipient) * 16 + usize::from(sender)
+    rows: [[Option<usize>; HOSTS]; HOSTS],
 }
 
 impl Offsets {
     // No entry yet.
     pub fn new() -> Offsets
-        ensures { result.cells ≡ replicate 256 None }
+        ensures { result.rows ≡ no_offsets }
     {
-        Offsets { cells: [None; 256] }
+        Offsets {
+            rows: [[None; HOSTS]; HOSTS],
+        }
     }
 
     // Where the pair's entry begins, if it has one.
     pub fn get(&self, recipient: u8, sender: u8) -> Option<usize>
-        ensures { result ≡ offset_of self.now.cells recipient sender }
+        ensures { result ≡ offset_of self.now.rows recipient sender }
     {
-        if recipient < HOSTS && sender < HOSTS {
-            self.cells[cell_of(recipient, sender)]
-        } else {
-            None
-        }
+        let row = self.rows.get(usize::from(recipient))?;
+        *row.get(usize::from(sender))?
     }
 
     // The pair's entry begins at the offset. Nothing is kept for a host that no set of hosts can name.
     pub fn file(&mut self, recipient: u8, sender: u8, offset: usize)
-        ensures { self.new.cells ≡ filed self.old.cells recipient sender offset }
+        ensures { self.new.rows ≡ filed self.old.rows recipient sender offset }
     {
-        if recipient < HOSTS && sender < HOSTS {
-            self.cells[cell_of(recipient, sender)] = Some(offset);
+        let (i, j) = (usize::from(recipient), usize::from(sender));
+        if i < HOSTS && j < HOSTS {
+            self.rows[i][j] = Some(offset);
         }
     }
 }

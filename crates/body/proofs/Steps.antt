@@ -1,5 +1,5 @@
 -- One host's turn among the lists of a warrant.
-use Rattle.std.proofs.Common.{◌≡◌, ℕ, suc, ◌+◌, ◌-◌, ◌<◌, ◌≤◌, true, false, cond, List, length, drop, Ok, Err, Result, sym, refl, ap, ◌∙◌, arith}
+use Rattle.std.proofs.Common.{◌≡◌, ℕ, suc, ◌+◌, ◌-◌, ◌<◌, ◌≤◌, true, false, cond, List, length, drop, Ok, Err, sym, ap, ◌∙◌, arith}
 use Rattle.std.proofs.lemmas.List.{drop-drop}
 use Rattle.fault.specs.declared.Fault.{Fault}
 use Rattle.sets.specs.Sets.{has}
@@ -26,14 +26,6 @@ ended lim j w bs at e = let z : 16 - j ≡ 0 = omega arith in rw z
 pub record Left (lim : Limits) (bs : List ℕ) (at : ℕ) (front : Warrant) (j : ℕ) (w : Warrant) (used : ℕ) : Type 0 where
   pub so : grown used (lists_from lim (16 - j) j w (drop used bs) (at + used)) ≡ lists_from lim 16 0 front bs at
   pub to : used ≤ length bs
-
--- at the beginning nothing was used
-pub begun : (lim : Limits) (bs : List ℕ) (at : ℕ) (front : Warrant) → Left lim bs at front 0 front 0
-begun lim bs at front = let e : at + 0 ≡ at = omega arith in record { so = rw e (none (lists_from lim 16 0 front bs at)); to = omega arith }
-  where
-    none : (r : Result (Part Warrant) Fault) → grown 0 r ≡ r
-    none (Ok p) = let z : 0 + p.size ≡ p.size = omega arith in ap (λ (k : ℕ). Ok (sized p.value k)) z
-    none (Err x) = refl
 
 module _ {lim : Limits} {bs : List ℕ} {at : ℕ} {front : Warrant} {j : ℕ} {w : Warrant} {used : ℕ} (left : Left lim bs at front j w used) where
   pub refused : {e : Fault} → j < 16 → has w.signers j ≡ true → list lim (drop used bs) (at + used) ≡ Err e → Err e ≡ lists_from lim 16 0 front bs at

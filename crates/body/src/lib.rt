@@ -1,8 +1,8 @@
 // Bodies of letters: lists, warrants and acknowledgements, behind one reader.
 #![tactic(auto)]
 
-ghost use Rattle.std.specs.Prelude.{◌≡◌, ◌≤◌, length, IfOk};
-ghost use Rattle.parts.specs.Reading.{Reading, giving};
+ghost use Rattle.std.specs.Prelude.{◌≡◌};
+ghost use Rattle.parts.specs.Reading.{Reading, Within, giving};
 ghost use Rattle.body.specs.declared.kinds.Body.{Body};
 ghost use Rattle.body.specs.declared.kinds.Limits.{Limits};
 ghost use Rattle.body.specs.Fitting.{Sound};
@@ -27,9 +27,9 @@ pub trait BodySort {
     // Reads one at the front of the span.
     fn read(span: Span, limits: Limits) -> Result<Part<Self::Read>, Fault>
         ensures answer { result ≡ reading limits span.entry.bytes.now span.entry.offset }
-        ensures within { IfOk result (λ p. p.size ≤ length span.entry.bytes.now) };
+        ensures within { Within span.entry.bytes.now result };
 
-    // What was read, as a body of any sort.
+    // What was read, as a body of any sort. No `From`: a number alone does not say which body it is.
     fn into_body(read: Self::Read) -> Body
         ensures { result ≡ body read };
 

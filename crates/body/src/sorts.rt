@@ -1,5 +1,6 @@
 // The three sorts of body.
-ghost use Rattle.std.specs.Prelude.{◌≡◌, ◌≤◌, length, IfOk};
+ghost use Rattle.std.specs.Prelude.{◌≡◌};
+ghost use Rattle.parts.specs.Reading.{Within};
 ghost use Rattle.body.specs.declared.kinds.Body.TheVariants as bodies;
 ghost use Rattle.body.specs.Bodies.{acknowledgement, list, lists_from, places, warrant, warrant_front};
 ghost use Rattle.std.proofs.Common.{rules};
@@ -14,9 +15,9 @@ use sets::{has_host, is_mask_of};
 // A set of candidates at the front of the span.
 pub fn read_places(span: Span, layer: Layer, limits: Limits) -> Result<Part<u32>, Fault>
     ensures answer { result ≡ places limits layer span.entry.bytes.now span.entry.offset }
-    ensures within { IfOk result (λ p. p.size ≤ length span.entry.bytes.now) }
+    ensures within { Within span.entry.bytes.now result }
 {
-    let mask = span.long_word(layer)?;
+    let mask = u32::from_be_bytes(span.first_bytes(layer)?);
     if !is_mask_of(mask, limits.places) {
         return Err(span.fault(Refusal::UnknownPlace, layer));
     }
@@ -60,7 +61,7 @@ impl BodySort for Acknowledgements {
     ghost sound = { Prim.search rules };
 
     fn read(span: Span, limits: Limits) -> Result<Part<u8>, Fault> {
-        let byte = span.byte(Layer::Body)?;
+        let [byte] = span.first_bytes::<1>(Layer::Body)?;
         let place = byte / 8;
         if place >= limits.places {
             return Err(span.fault(Refusal::UnknownPlace, Layer::Body));
@@ -82,9 +83,9 @@ impl BodySort for Acknowledgements {
 // How a warrant begins: all but its lists.
 fn read_front(span: Span, limits: Limits) -> Result<Part<Warrant>, Fault>
     ensures answer { result ≡ warrant_front limits span.entry.bytes.now span.entry.offset }
-    ensures within { IfOk result (λ p. p.size ≤ length span.entry.bytes.now) }
+    ensures within { Within span.entry.bytes.now result }
 {
-    let word = span.long_word(Layer::Body)?;
+    let word = u32::from_be_bytes(span.first_bytes(Layer::Body)?);
     let place = (word / 0x800_0000) as u8;
     let phase = (word / 0x1_0000 % 2048) as u16;
     let signers = (word % 0x1_0000) as u16;
@@ -108,15 +109,15 @@ fn read_front(span: Span, limits: Limits) -> Result<Part<Warrant>, Fault>
 // A list for each signer, ascending, behind what a warrant begins with.
 fn read_lists(span: Span, front: Warrant, limits: Limits) -> Result<Part<Warrant>, Fault>
     ensures answer { result ≡ lists_from limits 16 0 front span.entry.bytes.now span.entry.offset }
-    ensures within { IfOk result (λ p. p.size ≤ length span.entry.bytes.now) }
+    ensures within { Within span.entry.bytes.now result }
 {
     let mut warrant = front;
     let mut size = 0;
-    for host in 0..16u8 {
-        if has_host(warrant.signers, host) {
-            let list = read_places(span.behind(size), Layer::Body, limits)?;
-            warrant.lists[usize::from(host)] = list.value;
-            size += list.size;
+    for (host, list) in warrant.lists.iter_mut().enumerate() {
+        if has_host(warrant.signers, host as u8) {
+            let read = read_places(span.behind(size), Layer::Body, limits)?;
+            *list = read.value;
+            size += read.size;
         }
     }
     Ok(Part {

@@ -1,5 +1,5 @@
 -- An entry depends on the bytes that it takes, if its bodies do.
-use Rattle.std.proofs.Common.{◌≡◌, ℕ, eqb, List, [], take, Ok, sym, ap, ◌∙◌, append-nil}
+use Rattle.std.proofs.Common.{◌≡◌, ℕ, eqb, List, [], take, Ok, sym, append-nil}
 use Rattle.fault.specs.declared.Layer.TheVariants as layers
 use Rattle.parts.specs.declared.span.Part.{Part}
 use Rattle.parts.specs.Numbers.{long_word}
@@ -15,8 +15,8 @@ use Rattle.entry.specs.declared.letter.Head.{Head}
 use Rattle.entry.specs.Entries.{bodies_of, letter, content}
 
 -- alone, the bytes that it took are read as the same
-pub alone : {A : Type 0} (read : Reading A) → Settled read → (bs : List ℕ) (at to : ℕ) (p : Part A) → read bs at ≡ Ok p → read (take p.size bs) to ≡ Ok p
-alone read s bs at to p h = ap (λ (ys : List ℕ). read ys to) (sym (append-nil (take p.size bs))) ∙ s.anywhere bs at p h [] to
+pub alone : {A : Type 0} (read : Reading A) → Settled read → (bs : List ℕ) (at to : ℕ) (p : Part A) → Ok p ≡ read bs at → read (take p.size bs) to ≡ Ok p
+alone read s bs at to p h = simp append-nil at (s.anywhere bs at p (sym h) [] to)
 
 module _ (body : Reading Body) (s : Settled body) where
   pub settled_bodies : (count : ℕ) → Settled (bodies_of body count)

@@ -1,7 +1,8 @@
 // Letters, and the entries of a bag by which they reach a host.
 use body::kinds::Body;
+use parts::span::Span;
 
-// The bodies of a letter, at most two.
+// The bodies of a letter, at most two by type. An array of options could leave out the first of two.
 #[derive(Clone, Copy)]
 pub enum Bodies {
     None,
@@ -18,6 +19,7 @@ pub struct Letter {
 }
 
 // How a letter reaches a host: an honest sender's own letter is carried, and a faulty sender's is forged, so that it says anything.
+// Not an `Option<Letter>`: this enum is a form that was asked for.
 #[derive(Clone, Copy)]
 pub enum Entry {
     Carried,
@@ -27,22 +29,24 @@ pub enum Entry {
 // An entry as it was met in a bag: the bodies of a forged letter are still bytes, borrowed from the bag, with their offset.
 #[derive(Clone, Copy)]
 pub enum RawEntry<'a> {
-    Carried {
-        recipient: u8,
-        sender: u8,
-    },
+    Carried,
     Forged {
-        recipient: u8,
-        sender: u8,
         input: u8,
         proper: u32,
         count: u8,
-        bodies: &'a [u8],
-        offset: usize,
+        bodies: Span<'a>,
     },
 }
 
-// The head of an entry.
+// An entry that was met, with whom it is for and whose it is.
+#[derive(Clone, Copy)]
+pub struct MetEntry<'a> {
+    pub recipient: u8,
+    pub sender: u8,
+    pub entry: RawEntry<'a>,
+}
+
+// The head of an entry, with the fields of the format: what is not forged has an input and a count too, and `check` refuses them where they are not 0.
 #[derive(Clone, Copy)]
 pub struct Head {
     pub forged: bool,

@@ -1,11 +1,13 @@
 // Entries of a bag: a head, and for a forged letter what it says.
 #![tactic(auto)]
 
-ghost use Rattle.std.specs.Prelude.{◌≡◌, ◌≤◌, length, IfOk, Some};
-ghost use Rattle.fault.specs.Refusals.{first_that_holds};
-ghost use Rattle.parts.specs.Reading.{giving};
-ghost use Rattle.entry.specs.Entries.{bodies_of, content, entry, fields, head_tests, met};
-ghost use Rattle.entry.specs.Raw.{Borrows, entry_of, opened, recipient_of, sender_of};
+ghost use Rattle.std.specs.Prelude.{◌≡◌, [], IfOk, Some};
+ghost use Rattle.fault.specs.declared.Layer.TheVariants as layers;
+ghost use Rattle.fault.specs.Refusals.{first_that_holds, unless};
+ghost use Rattle.parts.specs.Numbers.{word};
+ghost use Rattle.parts.specs.Reading.{Within, giving, part};
+ghost use Rattle.entry.specs.Entries.{bodies_of, content, fields, head_tests};
+ghost use Rattle.entry.specs.Raw.{Borrows, entry_in, entry_of, opened};
 
 use body::BodySort;
 use body::kinds::Limits;
@@ -32,64 +34,55 @@ impl Head {
         }
     }
 
-    // The first thing that is wrong with a head, in a round whose letters have at most so many bodies.
-    pub fn refusal(&self, limits: Limits, most: u8, is_met: bool) -> Option<Refusal>
-        ensures { result ≡ first_that_holds (head_tests limits most (λ _ _. is_met) self.now) }
+    // The head at the front of the span, not tested yet.
+    pub fn read(span: Span) -> Result<Part<Head>, Fault>
+        ensures answer { result ≡ part 2 word layers.Entry (λ _. []) fields span.entry.bytes.now span.entry.offset }
+        ensures within { Within span.entry.bytes.now result }
+    {
+        let word = u16::from_be_bytes(span.first_bytes(Layer::Entry)?);
+        Ok(Part {
+            value: Head::unpack(word),
+            size: 2,
+        })
+    }
+
+    // Refuses a head by the first thing that is wrong with it, in a round whose letters have at most so many bodies.
+    pub fn check(&self, limits: Limits, most: u8, is_met: bool) -> Result<(), Refusal>
+        ensures { result ≡ unless (first_that_holds (head_tests limits most (λ _ _. is_met) self.now)) tt }
     {
         if self.sender >= limits.hosts || self.recipient >= limits.hosts {
-            return Some(Refusal::UnknownHost);
+            return Err(Refusal::UnknownHost);
         }
         if self.sender == self.recipient {
-            return Some(Refusal::SameHost);
+            return Err(Refusal::SameHost);
         }
         if has_host(limits.faulty, self.recipient) {
-            return Some(Refusal::FaultyRecipient);
+            return Err(Refusal::FaultyRecipient);
         }
         if self.forged != has_host(limits.faulty, self.sender) {
-            return Some(Refusal::WrongOrigin);
+            return Err(Refusal::WrongOrigin);
         }
         if is_met {
-            return Some(Refusal::PairMet);
+            return Err(Refusal::PairMet);
         }
         if !self.forged && (self.input != 0 || self.count != 0) {
-            return Some(Refusal::NotZero);
+            return Err(Refusal::NotZero);
         }
         if self.forged && self.count > most {
-            return Some(Refusal::BodyCount);
+            return Err(Refusal::BodyCount);
         }
         if self.forged && self.input >= limits.places {
-            return Some(Refusal::UnknownPlace);
+            return Err(Refusal::UnknownPlace);
         }
-        None
-    }
-}
-
-impl RawEntry<'_> {
-    // Whom the entry is for.
-    pub fn recipient(&self) -> u8
-        ensures { result ≡ recipient_of self.now }
-    {
-        match *self {
-            RawEntry::Carried { recipient, .. } => recipient,
-            RawEntry::Forged { recipient, .. } => recipient,
-        }
-    }
-
-    // Whose it is.
-    pub fn sender(&self) -> u8
-        ensures { result ≡ sender_of self.now }
-    {
-        match *self {
-            RawEntry::Carried { sender, .. } => sender,
-            RawEntry::Forged { sender, .. } => sender,
-        }
+        Ok(())
     }
 }
 
 // As many bodies as are asked for, two at the most.
+#[tactic(auto, unfolding(crate::specs::Entries::bodies_of))]
 fn read_bodies<B: BodySort>(span: Span, count: u8, limits: Limits) -> Result<Part<Bodies>, Fault>
     ensures answer { result ≡ bodies_of (giving B.BodySort.body (B.BodySort.reading limits)) count span.entry.bytes.now span.entry.offset }
-    ensures within { IfOk result (λ p. p.size ≤ length span.entry.bytes.now) }
+    ensures within { Within span.entry.bytes.now result }
 {
     if count == 0 {
         return Ok(Part {
@@ -118,16 +111,14 @@ pub fn decode<B: BodySort>(entry: &RawEntry, limits: Limits) -> Result<Entry, Fa
     ensures { result ≡ entry_of (giving B.BodySort.body (B.BodySort.reading limits)) entry.now }
 {
     match *entry {
-        RawEntry::Carried { .. } => Ok(Entry::Carried),
+        RawEntry::Carried => Ok(Entry::Carried),
         RawEntry::Forged {
             input,
             proper,
             count,
-            bodies: bytes,
-            offset,
-            ..
+            bodies,
         } => {
-            let bodies = read_bodies::<B>(Span::at(bytes, offset), count, limits)?;
+            let bodies = read_bodies::<B>(bodies, count, limits)?;
             Ok(Entry::Forged(Letter {
                 input,
                 proper,
@@ -143,32 +134,25 @@ pub fn read_content<'a, B: BodySort>(
     head: Head,
     limits: Limits,
 ) -> Result<Part<RawEntry<'a>>, Fault>
-    ensures answer { opened (giving B.BodySort.body (B.BodySort.reading limits)) result ≡ giving (λ e. Some (met head.recipient head.sender e)) (content limits (giving B.BodySort.body (B.BodySort.reading limits)) head) span.entry.bytes.now span.entry.offset }
+    ensures answer { opened (entry_in (giving B.BodySort.body (B.BodySort.reading limits))) result ≡ giving Some (content limits (giving B.BodySort.body (B.BodySort.reading limits)) head) span.entry.bytes.now span.entry.offset }
     ensures borrowed { IfOk result (λ p. Borrows p.value p.size span.entry.bytes.now span.entry.offset) }
-    ensures within { IfOk result (λ p. p.size ≤ length span.entry.bytes.now) }
+    ensures within { Within span.entry.bytes.now result }
 {
     if !head.forged {
         return Ok(Part {
-            value: RawEntry::Carried {
-                recipient: head.recipient,
-                sender: head.sender,
-            },
+            value: RawEntry::Carried,
             size: 0,
         });
     }
     let proper = read_places(span, Layer::Entry, limits)?;
     let rest = span.behind(proper.size);
     let bodies = read_bodies::<B>(rest, head.count, limits)?;
-    let own = rest.front(bodies.size);
     Ok(Part {
         value: RawEntry::Forged {
-            recipient: head.recipient,
-            sender: head.sender,
             input: head.input,
             proper: proper.value,
             count: head.count,
-            bodies: own.bytes,
-            offset: own.offset,
+            bodies: rest.front(bodies.size),
         },
         size: proper.size + bodies.size,
     })

@@ -5,10 +5,10 @@ ghost use Rattle.entry.specs.Rounds.{most_bodies, round_code};
 // The four rounds of a phase, in their order.
 #[derive(Clone, Copy)]
 pub enum Round {
-    List,
-    Nomination,
-    Acknowledgement,
-    Release,
+    List = 0,
+    Nomination = 1,
+    Acknowledgement = 2,
+    Release = 3,
 }
 
 impl Round {
@@ -16,12 +16,7 @@ impl Round {
     pub fn code(&self) -> u8
         ensures { result ≡ round_code self.now }
     {
-        match self {
-            Round::List => 0,
-            Round::Nomination => 1,
-            Round::Acknowledgement => 2,
-            Round::Release => 3,
-        }
+        *self as u8
     }
 
     // How many bodies a letter of the round can have.

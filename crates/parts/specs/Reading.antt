@@ -1,5 +1,5 @@
 -- How the parts of a bag are read: each at the front of the bytes that are left, with the offset of that front in the bag.
-use Rattle.std.specs.Prelude.{ℕ, ◌+◌, ◌-◌, ◌^◌, min, Bool, cond, List, length, drop, Some, None, Ok, Err, Option, Result, nat_lt}
+use Rattle.std.specs.Prelude.{ℕ, ◌+◌, ◌-◌, ◌^◌, ◌≤◌, min, Bool, cond, List, length, drop, Some, None, Ok, Err, Option, Result, IfOk, nat_lt}
 use Rattle.fault.specs.declared.Refusal.{Refusal}
 use Rattle.fault.specs.declared.Refusal.TheVariants.{ShortPart}
 use Rattle.fault.specs.declared.Layer.{Layer}
@@ -33,14 +33,18 @@ unless_refused layer at (Some refusal) x = Err (fault_at layer at refusal)
 abbrev pub sized : {A : Type 0} → A → ℕ → Part A
 sized x n = record { value = x; size = n }
 
--- the number in the first n bytes, if there are so many
-abbrev pub leading : ℕ → (List ℕ → ℕ → ℕ) → Layer → List ℕ → ℕ → Result ℕ Fault
-leading n number layer bs at = cond (nat_lt (length bs) n) (Err (fault_at layer at ShortPart)) (Ok (number bs 0))
+-- what the first n bytes say, if there are so many
+abbrev pub leading : {A : Type 0} → ℕ → (List ℕ → A) → Layer → List ℕ → ℕ → Result A Fault
+leading n says layer bs at = cond (nat_lt (length bs) n) (Err (fault_at layer at ShortPart)) (Ok (says bs))
 
 -- a part is the number in n bytes: it is refused where it is longer than what is left, and then by the first of its tests that holds
 abbrev pub part : {A : Type 0} → ℕ → (List ℕ → ℕ → ℕ) → Layer → (ℕ → Tests) → (ℕ → A) → Reading A
 part n number layer tests value bs at =
-    then (leading n number layer bs at) (λ w. unless_refused layer at (first_that_holds (tests w)) (sized (value w) n))
+    then (leading n (λ ys. number ys 0) layer bs at) (λ w. unless_refused layer at (first_that_holds (tests w)) (sized (value w) n))
+
+-- an answer takes no more bytes than there are
+abbrev pub Within : {A : Type 0} → List ℕ → Result (Part A) Fault → Type 0
+Within bs result = IfOk result (λ p. p.size ≤ length bs)
 
 -- nothing more is read
 abbrev pub already : {A : Type 0} → A → Reading A

@@ -12,6 +12,7 @@ pub struct Span<'a> {
 }
 
 // What was read at the front of some bytes, and how many of them it took.
+// Not more than there were: each contract says so by `Within`, since no type of an answer can name the bytes that were asked about.
 #[derive(Clone, Copy)]
 pub struct Part<T> {
     pub value: T,

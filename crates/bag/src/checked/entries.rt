@@ -1,51 +1,70 @@
 // Reading the entries of a bag, each where it stands.
-ghost use Rattle.std.specs.Prelude.{◌≡◌, ◌≤◌, length, IfOk, Some};
-ghost use Rattle.parts.specs.Reading.{giving};
-ghost use Rattle.entry.specs.Entries.{entry};
-ghost use Rattle.entry.specs.Raw.{opened};
+ghost use Rattle.std.specs.Prelude.{◌≡◌, Some};
+ghost use Rattle.fault.specs.declared.Layer.TheVariants as layers;
+ghost use Rattle.parts.specs.Numbers.{word};
+ghost use Rattle.parts.specs.Reading.{Within, giving, part};
+ghost use Rattle.entry.specs.Entries.{entry, fields, head_tests};
+ghost use Rattle.entry.specs.Raw.{met_of, opened};
 ghost use Rattle.bag.specs.Bags.{entries_from, no_mail};
 ghost use Rattle.bag.specs.Checked.{filed_mail, is_filed, said};
 
 use crate::offsets::Offsets;
 use body::BodySort;
 use body::kinds::Limits;
-use entry::letter::{Entry, Head, RawEntry};
+use entry::letter::{Entry, Head, MetEntry};
 use entry::{decode, read_content};
 use fault::{Fault, Layer, Refusal};
 use parts::span::{Part, Span};
 
-// The entry at the front of the span, of a pair that has none yet, in a round whose letters have at most so many bodies.
+// The head at the front of the span, of a pair that has no entry yet, in a round whose letters have at most so many bodies.
+fn read_head(span: Span, limits: Limits, most: u8, offsets: &Offsets) -> Result<Part<Head>, Fault>
+    ensures answer { result ≡ part 2 word layers.Entry (λ w. head_tests limits most (is_filed offsets.now.rows) (fields w)) fields span.entry.bytes.now span.entry.offset }
+    ensures within { Within span.entry.bytes.now result }
+{
+    let front = Head::read(span)?;
+    let head = front.value;
+    let is_met = offsets.get(head.recipient, head.sender).is_some();
+    // Not `map_err`: of a closure that borrows a span the check infers no result.
+    if let Err(refusal) = head.check(limits, most, is_met) {
+        return Err(span.fault(refusal, Layer::Entry));
+    }
+    Ok(front)
+}
+
+// The entry at the front of the span, tested in the same way.
 fn read_entry<'a, B: BodySort>(
     span: Span<'a>,
     limits: Limits,
     most: u8,
     offsets: &Offsets,
-) -> Result<Part<RawEntry<'a>>, Fault>
-    ensures answer { opened (giving B.BodySort.body (B.BodySort.reading limits)) result ≡ giving Some (entry limits most (giving B.BodySort.body (B.BodySort.reading limits)) (is_filed offsets.now.cells)) span.entry.bytes.now span.entry.offset }
-    ensures within { IfOk result (λ p. p.size ≤ length span.entry.bytes.now) }
+) -> Result<Part<MetEntry<'a>>, Fault>
+    ensures answer { opened (met_of (giving B.BodySort.body (B.BodySort.reading limits))) result ≡ giving Some (entry limits most (giving B.BodySort.body (B.BodySort.reading limits)) (is_filed offsets.now.rows)) span.entry.bytes.now span.entry.offset }
+    ensures within { Within span.entry.bytes.now result }
 {
-    let head = Head::unpack(span.word(Layer::Entry)?);
-    let is_met = offsets.get(head.recipient, head.sender).is_some();
-    if let Some(refusal) = head.refusal(limits, most, is_met) {
-        return Err(span.fault(refusal, Layer::Entry));
-    }
-    let content = read_content::<B>(span.behind(2), head, limits)?;
+    let front = read_head(span, limits, most, offsets)?;
+    let head = front.value;
+    let content = read_content::<B>(span.behind(front.size), head, limits)?;
     Ok(Part {
-        value: content.value,
-        size: 2 + content.size,
+        value: MetEntry {
+            recipient: head.recipient,
+            sender: head.sender,
+            entry: content.value,
+        },
+        size: front.size + content.size,
     })
 }
 
 // What the entry at the front of the span says. It was tested when the bag was read, and is not tested again.
+#[tactic(auto, unfolding(crate::specs::Checked::said))]
 pub(crate) fn read_again<B: BodySort>(span: Span, limits: Limits) -> Result<Entry, Fault>
     ensures { result ≡ said limits (giving B.BodySort.body (B.BodySort.reading limits)) span.entry.bytes.now span.entry.offset }
 {
-    let head = Head::unpack(span.word(Layer::Entry)?);
-    let content = read_content::<B>(span.behind(2), head, limits)?;
+    let head = Head::read(span)?;
+    let content = read_content::<B>(span.behind(head.size), head.value, limits)?;
     decode::<B>(&content.value, limits)
 }
 
-// Where the entries begin that stand one behind the other.
+// Where the entries begin that stand one behind the other. The limits are the council's, and the most bodies the round's.
 pub(crate) fn read_entries<B: BodySort>(
     span: Span,
     count: u8,
@@ -58,7 +77,7 @@ pub(crate) fn read_entries<B: BodySort>(
     let mut used = 0;
     for _k in 0..count {
         let entry = read_entry::<B>(span.behind(used), limits, most, &offsets)?;
-        offsets.file(entry.value.recipient(), entry.value.sender(), used);
+        offsets.file(entry.value.recipient, entry.value.sender, used);
         used += entry.size;
     }
     if used < span.bytes.len() {

@@ -1,5 +1,6 @@
 // Reading a bag, and asking what it says.
-ghost use Rattle.std.specs.Prelude.{◌≡◌, ◌≤◌, length, IfOk};
+ghost use Rattle.std.specs.Prelude.{◌≡◌};
+ghost use Rattle.parts.specs.Reading.{Within};
 ghost use Rattle.entry.specs.Rounds.{body_in, most_bodies};
 ghost use Rattle.bag.specs.Bags.{bag_head, entries_from, no_mail, read_bag};
 ghost use Rattle.bag.specs.Checked.{checked, filed_mail, mail_in, said};
@@ -20,33 +21,33 @@ const HEAD_SIZE: usize = 3;
 // The head of a bag: how many entries there are.
 fn read_head(span: Span, awaited: Awaited) -> Result<Part<u8>, Fault>
     ensures answer { result ≡ bag_head awaited span.entry.bytes.now span.entry.offset }
-    ensures within { IfOk result (λ p. p.size ≤ length span.entry.bytes.now) }
+    ensures within { Within span.entry.bytes.now result }
 {
-    let word = span.triple(Layer::Bag)?;
-    if word >> 13 != u32::from(awaited.phase)
-        || (word >> 11) % 4 != u32::from(awaited.round.code())
-    {
+    let [a, b, count] = span.first_bytes::<HEAD_SIZE>(Layer::Bag)?;
+    let word = u16::from_be_bytes([a, b]);
+    if word >> 5 != awaited.phase || (word >> 3) % 4 != u16::from(awaited.round.code()) {
         return Err(span.fault(Refusal::OtherRound, Layer::Bag));
     }
-    if (word >> 8) % 8 != 0 {
+    if word % 8 != 0 {
         return Err(span.fault(Refusal::NotZero, Layer::Bag));
     }
     Ok(Part {
-        value: (word % 256) as u8,
+        value: count,
         size: HEAD_SIZE,
     })
 }
 
-// Where the entries of a round begin.
+// Where the entries of a round begin. This switch and the one below are no plainer in one place, which takes a trait with a generic method for two callers.
 fn read_round(span: Span, count: u8, limits: Limits, round: Round) -> Result<Offsets, Fault>
     ensures { filed_mail limits (body_in round limits) span.entry.bytes.now span.entry.offset result ≡ entries_from limits (most_bodies round) (body_in round limits) count no_mail span.entry.bytes.now span.entry.offset }
 {
     let most = round.most_bodies();
     match round {
         Round::List => read_entries::<Lists>(span, count, limits, most),
-        Round::Nomination => read_entries::<Warrants>(span, count, limits, most),
         Round::Acknowledgement => read_entries::<Acknowledgements>(span, count, limits, most),
-        Round::Release => read_entries::<Warrants>(span, count, limits, most),
+        Round::Nomination | Round::Release => {
+            read_entries::<Warrants>(span, count, limits, most)
+        }
     }
 }
 
@@ -77,14 +78,13 @@ fn read_again_in(span: Span, limits: Limits, round: Round) -> Result<Entry, Faul
 {
     match round {
         Round::List => read_again::<Lists>(span, limits),
-        Round::Nomination => read_again::<Warrants>(span, limits),
         Round::Acknowledgement => read_again::<Acknowledgements>(span, limits),
-        Round::Release => read_again::<Warrants>(span, limits),
+        Round::Nomination | Round::Release => read_again::<Warrants>(span, limits),
     }
 }
 
 impl CheckedBag<'_> {
-    // What the bag has for a recipient from a sender; nothing for a host that there is not.
+    // What the bag has for a recipient from a sender; nothing for a host that there is not. `ok` drops no fault: an entry that was read is read again as the same.
     pub fn entry(&self, recipient: u8, sender: u8) -> Option<Entry>
         ensures { result ≡ mail_in self.now recipient sender }
     {

@@ -1,35 +1,20 @@
-use Rattle.std.proofs.Common.{◌≡◌, ℕ, ◌+◌, ◌-◌, drop, sym, ap, ◌∙◌, arith}
-use Rattle.std.proofs.lemmas.List.{length-drop}
-use Rattle.fault.specs.declared.Layer.TheVariants as layers
-use Rattle.parts.specs.declared.span.Part.{Part}
-use Rattle.parts.specs.Numbers.{long_word}
-use Rattle.parts.specs.Reading.{giving, placed_at}
-use Rattle.parts.proofs.Settled.{part_read, read_behind}
-use Rattle.body.specs.Bodies.{places_tests}
+use Rattle.std.proofs.Common.{Ok, arith}
+use Rattle.parts.specs.Reading.{giving}
+use Rattle.parts.proofs.Settled.{read_behind}
 use Rattle.entry.specs.Entries.{bodies_of}
 use Rattle.entry.proofs.Settled.{alone, settled_bodies}
 use Rattle.entry.proofs.read_content.Goals as goal
 
-pub returns : goal.returns
-returns g c =
+pub returns-clause-answer : goal.returns-clause-answer
+returns-clause-answer g c =
     let lim = c.args.limits in
     let body = giving g.B.BodySort.body (g.B.BodySort.reading lim) in
-    let bs = c.args.span.bytes.now in
     let f = c.in_ok-proper.proper in
     let b = c.in_ok-bodies.bodies in
     let l = c.in_ok-proper.ensures in
     let m = c.in_ok-bodies.ensures in
     let read = bodies_of body c.args.head.count in
-    let y = read_behind read bs c.args.span.offset f.size c.behind-rest.ensures.bytes c.behind-rest.ensures.offset l.within m.answer in
-    let z = alone read (settled_bodies body (g.met.B.BodySort.sound lim).settled c.args.head.count) c.behind-rest.result.bytes.now c.behind-rest.result.offset (placed_at c.front-own.result.bytes.now c.front-own.result.offset) b (sym m.answer) in
-    let t = rw (← c.front-own.ensures.bytes) at z in
-    let four : f.size ≡ 4 = ap (λ (p : Part ℕ). p.size) (part_read 4 long_word layers.Entry (places_tests lim) (λ x. x) bs c.args.span.offset f (sym l.answer)).is in
-    let rest = c.behind-rest.ensures.bytes ∙ ap (λ (n : ℕ). drop n bs) four in
-    let d = length-drop f.size bs in
-    let w = simp c.behind-rest.ensures.bytes at m.within in
-    let e : b.size ≡ f.size + b.size - 4 = omega arith in
-    record {
-      answer = grind arith;
-      borrowed = (c.front-own.ensures.bytes ∙ rw (← e, rest), omega (arith, l.within));
-      within = omega (arith, l.within);
-    }
+    let y = read_behind read c.args.span.bytes.now c.args.span.offset f.size {r = Ok c.in_ok-bodies.bodies} c.behind-rest.ensures.bytes c.behind-rest.ensures.offset l.within m.answer in
+    let z = alone read (settled_bodies body (g.met.B.BodySort.sound lim).settled c.args.head.count) c.behind-rest.result.bytes.now c.behind-rest.result.offset c.front.result.offset b m.answer in
+    let t = rw (← c.front.ensures.bytes) at z in
+    grind arith

@@ -1,7 +1,6 @@
 // What stands at the front of a span.
 ghost use Rattle.std.specs.Prelude.{◌≡◌, ◌+◌, min, length, take, drop};
 ghost use Rattle.fault.specs.Refusals.{fault_at};
-ghost use Rattle.parts.specs.Numbers.{byte, long_word, triple, word};
 ghost use Rattle.parts.specs.Reading.{leading, placed_at};
 
 use crate::span::Span;
@@ -13,7 +12,7 @@ impl<'a> Span<'a> {
         ensures bytes { result.bytes.now ≡ bytes.now }
         ensures offset { result.offset ≡ 0 }
     {
-        Span { bytes, offset: 0 }
+        Span::at(bytes, 0)
     }
 
     // Bytes that begin at the offset; one so large that they would end past all numbers is taken for the largest that they can have.
@@ -46,7 +45,7 @@ impl<'a> Span<'a> {
     {
         let n = n.min(self.bytes.len());
         Span {
-            bytes: &self.bytes[0..n],
+            bytes: &self.bytes[..n],
             offset: self.offset,
         }
     }
@@ -62,43 +61,11 @@ impl<'a> Span<'a> {
         }
     }
 
-    // The first byte.
-    pub fn byte(&self, layer: Layer) -> Result<u8, Fault>
-        ensures { result ≡ leading 1 byte layer self.now.bytes.now self.now.offset }
+    // The first N bytes.
+    pub fn first_bytes<const N: usize>(&self, layer: Layer) -> Result<[u8; N], Fault>
+        ensures { result ≡ leading N (take N) layer self.now.bytes.now self.now.offset }
     {
-        let [a, ..] = self.bytes else {
-            return Err(self.fault(Refusal::ShortPart, layer));
-        };
-        Ok(*a)
-    }
-
-    // The number in the first two bytes.
-    pub fn word(&self, layer: Layer) -> Result<u16, Fault>
-        ensures { result ≡ leading 2 word layer self.now.bytes.now self.now.offset }
-    {
-        let [a, b, ..] = self.bytes else {
-            return Err(self.fault(Refusal::ShortPart, layer));
-        };
-        Ok(u16::from_be_bytes([*a, *b]))
-    }
-
-    // The number in the first three bytes.
-    pub fn triple(&self, layer: Layer) -> Result<u32, Fault>
-        ensures { result ≡ leading 3 triple layer self.now.bytes.now self.now.offset }
-    {
-        let [a, b, c, ..] = self.bytes else {
-            return Err(self.fault(Refusal::ShortPart, layer));
-        };
-        Ok(u32::from_be_bytes([0, *a, *b, *c]))
-    }
-
-    // The number in the first four bytes.
-    pub fn long_word(&self, layer: Layer) -> Result<u32, Fault>
-        ensures { result ≡ leading 4 long_word layer self.now.bytes.now self.now.offset }
-    {
-        let [a, b, c, d, ..] = self.bytes else {
-            return Err(self.fault(Refusal::ShortPart, layer));
-        };
-        Ok(u32::from_be_bytes([*a, *b, *c, *d]))
+        let short = self.fault(Refusal::ShortPart, layer);
+        self.bytes.first_chunk().copied().ok_or(short)
     }
 }
