@@ -22,20 +22,6 @@ fn nth_position(i: u32) -> Position {
     }
 }
 
-// Seals i at the i-th position, and answers how many were accepted.
-fn fill<K: Keeper>(keeper: &mut K, positions: u32) -> usize {
-    (0..positions)
-        .filter(|&i| keeper.seal(nth_position(i), i).is_ok())
-        .count()
-}
-
-// Asks whether i is genuine at the i-th position, and answers how many are.
-fn ask<K: Keeper>(keeper: &K, positions: u32) -> usize {
-    (0..positions)
-        .filter(|&i| keeper.is_genuine(nth_position(i), i))
-        .count()
-}
-
 // So many calls, and the time that they took.
 #[derive(Clone, Copy)]
 struct Calls {
@@ -79,28 +65,35 @@ impl fmt::Display for Timed {
     }
 }
 
-// Fills so many positions of a keeper, and asks about them.
+// Makes the call for each number below `positions`: how many are answered by true, and the time that all take.
+fn call_for_each<F: FnMut(&u32) -> bool + Drop>(
+    rt: &HostRuntime,
+    positions: u32,
+    call: F,
+) -> io::Result<Calls>
+    requires { (f : _) (i : _) → F.pre f i }
+{
+    let start = Instant::now(rt)?;
+    let count = (0..positions).filter(call).count();
+    Ok(Calls {
+        count,
+        time: start.elapsed(rt)?,
+    })
+}
+
+// Seals i at the i-th position of a keeper, and asks about it.
 fn measure<K: Keeper>(
     rt: &HostRuntime,
     name: &'static str,
     keeper: &mut K,
     positions: u32,
 ) -> io::Result<Measured> {
-    let start = Instant::now(rt)?;
-    let sealed = fill(keeper, positions);
-    let seal = Calls {
-        count: sealed,
-        time: start.elapsed(rt)?,
-    };
-    let start = Instant::now(rt)?;
-    let genuine = ask(keeper, positions);
-    let ask = Calls {
-        count: genuine,
-        time: start.elapsed(rt)?,
-    };
+    let seal = call_for_each(rt, positions, |&i| keeper.seal(nth_position(i), i).is_ok())?;
+    let ask = call_for_each(rt, positions, |&i| keeper.is_genuine(nth_position(i), i))?;
     Ok(Measured { name, seal, ask })
 }
 
+// A book and a grid are made by functions of their own, which no trait joins: so one function for each.
 fn measure_book(rt: &HostRuntime, positions: u32) -> io::Result<Measured> {
     let mut book = Book::new(rt.alloc(), 16, 0, positions as usize)?;
     measure(rt, "book", &mut book, positions)
