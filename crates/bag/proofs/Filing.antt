@@ -1,5 +1,5 @@
 -- An entry that was read and filed is read again as the same.
-use Rattle.std.proofs.Common.{◌≡◌, ℕ, ◌+◌, ◌<◌, ◌≤◌, min, cond, eqb, slice_set, List, [], length, get_or, drop, replicate, Some, None, Ok, Option, sym, refl, ap, ◌∙◌, ⊎_elim, arith}
+use Rattle.std.proofs.Common.{◌≡◌, ℕ, true, ◌+◌, ◌<◌, ◌≤◌, min, cond, eqb, slice_set, List, [], length, get_or, drop, replicate, Some, None, Ok, Option, sym, refl, ap, ◌∙◌, ⊎_elim, arith}
 use mathlib.Core.Path.{fun_ext}
 use Rattle.std.proofs.lemmas.List.{length-set, length-replicate, get_or-set_other, get_or-replicate, get_or_past}
 use Rattle.std.proofs.lemmas.Bool.{cases_Bool, cases_eq, cases_lt, eq-eqb, ne_eqb, lt-ltb}
@@ -36,6 +36,10 @@ pub record Square (rows : Rows) : Type 0 where
 -- as the first table has
 pub square_first : Square no_offsets
 square_first = record { high = length-replicate 16 (replicate {A = Option ℕ} 16 None); wide = λ i l. rw (get_or-replicate 16 i (replicate {A = Option ℕ} 16 None) [] l) (length-replicate {A = Option ℕ} 16 None) }
+
+-- one pair
+pub same_pair_lem : (i j x y : ℕ) → i ≡ x → j ≡ y → same_pair i j x y ≡ true
+same_pair_lem i j x y e f = let a = eq-eqb i x e in let b = eq-eqb j y f in rw (a, b)
 
 -- an element that is set
 index_set : {A : Type 0} (xs : List A) (i k : ℕ) (x d : A) → i < length xs → get_or (slice_set xs i x) k d ≡ cond (eqb i k) x (get_or xs k d)

@@ -1,8 +1,8 @@
 -- A warrant depends on the bytes that it takes, and fits.
-use Rattle.std.specs.Prelude.{◌≡◌, ℕ, zero, suc, ◌+◌, ◌<◌, true, false, List, length, replicate, Ok, slice_index}
-use Rattle.std.proofs.Common.{⊎_elim, arith}
-use Rattle.std.proofs.lemmas.List.{set_past, get_or-replicate, get_or_past}
-use Rattle.std.proofs.lemmas.Bool.{cases_Bool, cases_lt}
+use Rattle.std.specs.Prelude.{◌≡◌, ℕ, zero, suc, ◌+◌, true, false, ◌⊎◌, List, length, replicate, Ok, slice_index, slice_set}
+use Rattle.std.proofs.Common.{ap, ◌∙◌, inl, inr, ⊎_elim, arith}
+use Rattle.std.proofs.lemmas.List.{get_or-set_same, get_or-set_other, set_past, get_or-replicate, get_or_past}
+use Rattle.std.proofs.lemmas.Bool.{cases_Bool, cases_eq, cases_lt}
 use Rattle.std.proofs.lemmas.Bool.Decides.{nat_tests}
 use Rattle.std.proofs.lemmas.Nat.{pow_pos}
 use Rattle.std.proofs.lemmas.Grind.{elements, common_steps}
@@ -28,13 +28,23 @@ settled_lists lim (suc n) j w =
     (settled_then (list lim) (λ l. lists_from lim n (j + 1) (with_list w j l)) (settled_part 4 long_word layers.Body (places_tests lim) (λ m. m) long_in_front) (λ l. settled_lists lim n (j + 1) (with_list w j l)))
     (settled_lists lim n (j + 1) w)
 
+-- what is set is there, or all is as it was
+set_either : (xs : List ℕ) (k x i : ℕ) → (slice_index (slice_set xs k x) i ≡ x) ⊎ (slice_index (slice_set xs k x) i ≡ slice_index xs i)
+set_either xs k x i = ⊎_elim
+    (λ e. ⊎_elim
+    (λ l. inl (ap (λ (m : ℕ). slice_index (slice_set xs k x) m) e ∙ get_or-set_same xs k x 0 l))
+    (λ l. inr (ap (λ (ys : List ℕ). slice_index ys i) (set_past xs k x l)))
+    (cases_lt k (length xs)))
+    (λ ne. inr (get_or-set_other xs k i x 0 ne))
+    (cases_eq i k)
+
 -- a signer's list more
 fits_more : (lim : Limits) (w : Warrant) (j l : ℕ) → has w.signers j ≡ true → PlacesFit lim l → WarrantFits lim w → WarrantFits lim (with_list w j l)
 fits_more lim w j l s h f = record {
   place = f.place;
   phase = f.phase;
   signers = f.signers;
-  lists = λ k. ⊎_elim (λ (at : j < length w.lists). grind (arith, elements, f.lists k, h)) (λ past. rw (set_past w.lists j l past) (f.lists k)) (cases_lt j (length w.lists));
+  lists = λ k. ⊎_elim (λ e. rw e h) (λ e. rw e (f.lists k)) (set_either w.lists j l k);
   others = λ k n. grind (arith, elements, f.others k n, s, n);
 }
 

@@ -8,7 +8,7 @@ pub struct Limits {
     pub faulty: u16,
 }
 
-// A warrant (a quorum certificate): a place that was nominated in a phase, and the lists of those hosts that would accept it, by host; 0 where a host has not signed. A mask with a list beside for each of its bits is the form that was asked for.
+// A warrant (a quorum certificate): a place that was nominated in a phase, and the lists of those hosts that would accept it, by host; 0 where a host has not signed. The mask and the sixteen lists are a rule of the project (docs/DECISIONS.md, "Forms").
 #[derive(Clone, Copy)]
 pub struct Warrant {
     pub place: u8,

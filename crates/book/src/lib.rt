@@ -1,4 +1,4 @@
-// The book: a keeper with its numbers as rows, in the order in which they were sealed. No map: rows to be looked through are the form that is asked for.
+// The book: a keeper with its numbers as rows, in the order in which they were sealed. Not a map: that a book is rows is a rule of the project (docs/DECISIONS.md, "Keepers and their memory").
 #![tactic(auto)]
 
 ghost use Rattle.std.specs.Prelude.{◌≡◌, ◌≤◌, vec_len, vec_capacity};

@@ -9,7 +9,7 @@ pub mod snapshot;
 pub mod term;
 pub mod verdict;
 
-// A kind of candidate. Its equality may join candidates of different spelling, so it is not the `==` of a derive.
+// A kind of candidate. Its equality may join candidates of different spelling, so the trait does not ask for the `==` of a derive.
 pub trait Candidate {
     ghost equal: { Self → Self → Bool };
 

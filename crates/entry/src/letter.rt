@@ -19,7 +19,7 @@ pub struct Letter {
 }
 
 // How a letter reaches a host: an honest sender's own letter is carried, and a faulty sender's is forged, so that it says anything.
-// Not an `Option<Letter>`: this enum is a form that was asked for.
+// Not an `Option<Letter>`: that the cases have these names is a rule of the project (docs/DECISIONS.md, "Forms").
 #[derive(Clone, Copy)]
 pub enum Entry {
     Carried,

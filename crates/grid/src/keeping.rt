@@ -26,7 +26,7 @@ impl Grid {
         })
     }
 
-    // The index of the cell of a position: one flat block is the form that is asked for.
+    // The index of the cell of a position: the cells are one block, so that memory is asked for once.
     fn cell_of(&self, at: Position) -> usize
         ensures { result ≡ cell_of self.now.bounds.horizon at }
     {

@@ -1,5 +1,5 @@
 -- What an accepted sealing says of its position, and what it and a refused one leave.
-use Rattle.std.proofs.Common.{◌≡◌, ℕ, ◌^◌, ◌<◌, true, false, ◌⊎◌, cond, is_some, Some, None, Ok, Err, Option, Result, sym, refl, ap, ◌∙◌, inl, inr, ⊎_elim, arith}
+use Rattle.std.proofs.Common.{◌≡◌, ℕ, ◌^◌, ◌<◌, true, false, ◌⊎◌, is_some, Some, None, Ok, Err, Option, sym, refl, ap, ◌∙◌, inl, inr, ⊎_elim, arith}
 use Rattle.std.proofs.lemmas.Bool.{cases_Bool, cond-true, cond-false, and_from, lt-ltb}
 use Rattle.std.proofs.lemmas.Bool.Decides.{nat_tests}
 use Rattle.fault.specs.declared.Refusal.{Refusal}
@@ -41,13 +41,14 @@ sealed_held k at x e = cond-false (is_some (seal_fault k at)) k.held _ (ap is_so
 pub sealed_not : (k : Keeping) (at : Position) (x : ℕ) → is_some (seal_fault k at) ≡ true → sealed k at x ≡ k
 sealed_not k at x refused = ap (holding k) (cond-true (is_some (seal_fault k at)) k.held _ refused)
 
+-- a refused call has a refusal
+has_refusal : {X F : Type 0} (x : X) (o : Option F) (f : F) → Err f ≡ unless o x → is_some o ≡ true
+has_refusal x None f e = absurd (grind arith)
+has_refusal x (Some r) f e = refl
+
 -- the same, from what the sealing answered
 pub sealed_refused : (k : Keeping) (at : Position) (x : ℕ) (f : Refusal) → Err f ≡ sealing k at → k ≡ sealed k at x
-sealed_refused k at x f e = by (seal_fault k at) e
-  where
-    by : (o : Option Refusal) → ◌≡◌ {A = Result (Unit {0}) Refusal} (Err f) (unless o tt) → k ≡ holding k (cond (is_some o) k.held (with_number k.held at x))
-    by None e = cc
-    by (Some r) e = refl
+sealed_refused k at x f e = sym (sealed_not k at x (has_refusal tt (seal_fault k at) f e))
 
 -- a position where a number can be sealed is inside
 pub free_inside : (k : Keeping) (at : Position) → Ok tt ≡ sealing k at → is_inside k at ≡ true

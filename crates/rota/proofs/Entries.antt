@@ -1,13 +1,25 @@
 -- What the tests of a written rota say.
-use Rattle.std.proofs.Common.{◌≡◌, ℕ, ◌<◌, ◌≤◌, true, ◌&&◌, eqb, ltb, List, ◌++◌, length, get_or, refl, ap, ◌∙◌, arith}
-use Rattle.std.specs.List.{list_all, list_any, range_with_len}
+use Rattle.std.specs.Prelude.{Decides, ◌==◌, slice_index}
+use Rattle.std.proofs.Common.{◌≡◌, ℕ, ◌<◌, ◌≤◌, Bool, true, false, ◌&&◌, eqb, ltb, List, ◌++◌, length, get_or, sym, refl, ap, ◌∙◌, arith}
+use Rattle.std.specs.List.{IsAnyAnswer, list_all, list_any, range_with_len}
+use Rattle.std.proofs.lemmas.Bool.{eqb-true, eq-eqb, ne_eqb, false≢true}
 use Rattle.std.proofs.lemmas.Bool.Decides.{nat_tests}
 use Rattle.std.proofs.lemmas.Grind.{get_or_default_zero}
 use Rattle.std.proofs.lemmas.List.{get_or_append_left}
 use Rattle.sets.specs.Sets.{all_below}
 use Rattle.sets.proofs.Lists.{all_list, any_list, all_range}
-use Rattle.sets.proofs.Tests.{all_cong, any_cong}
+use Rattle.sets.proofs.Tests.{all_cong, any_true, any_false, any_cong}
 use Rattle.rota.specs.Cycles.{is_written, names, names_exactly}
+
+-- a test of each element by `==`, read as the fact that it decides
+pub decides_answer : (es : List ℕ) (h : ℕ) (r : Bool) → IsAnyAnswer (λ y t. (y == h) ≡ t) es r → IsAnyAnswer (λ y t. Decides t (y ≡ h)) es r
+decides_answer es h true w = (w.0, w.1, λ d. (λ _. eqb-true _ h (w.2 d), λ _. refl))
+decides_answer es h false w = λ k d from below. (λ e. absurd (false≢true e), λ e. absurd (false≢true (sym (w k d from below) ∙ eq-eqb _ h e)))
+
+-- what `contains` answers
+pub contains-names : (es : List ℕ) (h : ℕ) (r : Bool) → IsAnyAnswer (λ y t. Decides t (y ≡ h)) es r → r ≡ names es (length es) h
+contains-names es h true w = sym (any_true (length es) (λ i. slice_index es i == h) w.0 w.1 (eq-eqb _ h ((w.2 0).0 refl)))
+contains-names es h false w = sym (any_false (length es) (λ i. slice_index es i == h) (λ i l. ne_eqb _ h (λ e. false≢true ((w i 0 (omega arith) l).1 e))))
 
 -- each entry is below n
 pub below_list : (es : List ℕ) (n : ℕ) → list_all (λ x. ltb x n) es ≡ all_below (length es) (λ i. ltb (get_or es i 0) n)

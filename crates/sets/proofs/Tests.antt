@@ -1,7 +1,12 @@
 -- Laws of the tests over the numbers below a bound: every one passes, some one passes, the lowest that passes.
-use Rattle.std.proofs.Common.{◌≡◌, ℕ, zero, suc, ◌<◌, Bool, true, false, Some, None, sym, refl, ap, ◌⊎◌, ◌∙◌, subst, inl, inr, ⊎_elim, arith}
+use Rattle.std.proofs.Common.{◌≡◌, ℕ, zero, suc, ◌+◌, ◌<◌, Bool, true, false, Some, None, sym, refl, ap, ◌⊎◌, ◌∙◌, subst, inl, inr, ⊎_elim, add-one, arith}
 use Rattle.std.proofs.lemmas.Bool.{cases_Bool, cases_eq, true≢false, false≢true}
 use Rattle.sets.specs.Sets.{all_below, any_below, lowest}
+
+-- what holds below n, and of n, holds below n + 1
+pub all_more : (n : ℕ) (p : ℕ → Bool) → p n ≡ true → all_below n p ≡ true → all_below (n + 1) p ≡ true
+unfolding all_below
+all_more n p e h = ap (λ (k : ℕ). all_below k p) (add-one n) ∙ rw (e, h)
 
 -- what holds of each holds of all
 pub all_true : (n : ℕ) (p : ℕ → Bool) → ((i : ℕ) → i < n → p i ≡ true) → all_below n p ≡ true
@@ -27,6 +32,21 @@ pub all_cong : (n : ℕ) (p q : ℕ → Bool) → ((i : ℕ) → i < n → p i �
 unfolding all_below
 all_cong zero p q e = refl
 all_cong (suc n) p q e = let a = all_cong n p q (λ i l. e i (omega arith)) in let b = e n (omega arith) in cc
+
+-- one that passes is enough
+pub any_true : (n : ℕ) (p : ℕ → Bool) (i : ℕ) → i < n → p i ≡ true → any_below n p ≡ true
+unfolding any_below
+any_true zero p i l h = absurd (omega arith)
+any_true (suc n) p i l h = ⊎_elim
+    (λ e. let b : p n ≡ true = subst (λ (x : ℕ). p x ≡ true) e h in rw b)
+    (λ o. let a = any_true n p i (omega arith) h in let c = cases_Bool (p n) in grind arith)
+    (cases_eq i n)
+
+-- none passes
+pub any_false : (n : ℕ) (p : ℕ → Bool) → ((i : ℕ) → i < n → p i ≡ false) → any_below n p ≡ false
+unfolding any_below
+any_false zero p h = refl
+any_false (suc n) p h = let a = any_false n p (λ i l. h i (omega arith)) in let b = h n (omega arith) in rw (b, a)
 
 -- where some number passes, one does
 pub any_some : (n : ℕ) (p : ℕ → Bool) → any_below n p ≡ true → (i : ℕ) × (i < n) × (p i ≡ true)

@@ -17,7 +17,7 @@ pub struct InputPlaces {
     pub places: [Option<u8>; 16],
 }
 
-// 1 to 32 candidates.
+// At most 32 candidates, and where `new` made it, at least one.
 #[derive(Drop)]
 struct Candidates<'a, C> {
     list: &'a [C],
@@ -50,8 +50,9 @@ impl<'a, C: Candidate> Candidates<'a, C> {
     fn are_distinct(&self) -> bool
         ensures { result ≡ distinct C.Candidate.equal self.now.list.now }
     {
-        self.list.iter().enumerate().all(|(place, candidate)| self.place_of(candidate)
-            == Some(place as u8))
+        self.list.iter().enumerate().all(|(place, candidate)| {
+            self.place_of(candidate) == Some(place as u8)
+        })
     }
 }
 

@@ -22,7 +22,7 @@ fn nth_position(i: u32) -> Position {
     }
 }
 
-// So many calls, and the time that they took.
+// How many calls were answered by true, and the time that all of them took.
 #[derive(Clone, Copy)]
 struct Calls {
     count: usize,

@@ -24,7 +24,7 @@ fn read_head(span: Span, limits: Limits, most: u8, offsets: &Offsets) -> Result<
     let front = Head::read(span)?;
     let head = front.value;
     let is_met = offsets.get(head.recipient, head.sender).is_some();
-    // Not `map_err`: of a closure that borrows a span the check infers no result.
+    // `map_err` is no plainer: its closure needs a clause of its own.
     if let Err(refusal) = head.check(limits, most, is_met) {
         return Err(span.fault(refusal, Layer::Entry));
     }
