@@ -2,13 +2,15 @@
 ghost use Rattle.std.specs.Prelude.{◌≡◌};
 ghost use Rattle.bag.specs.Offsets.{filed, no_offsets, offset_of};
 
-// The most hosts that a set of hosts can name.
-const HOSTS: usize = 16;
+use sets::HOSTS;
 
-// How many bytes stand between the bag's head and each pair's entry: a row for each recipient that a set of hosts can name, with a cell for each sender.
+// As many rows, and cells in each, as a set of hosts can name.
+const SIDE: usize = HOSTS as usize;
+
+// How many bytes stand between the bag's head and each pair's entry: a row for each recipient that a set of hosts can name, with a cell for each sender. The two are passed apart, as the two indices of a table are.
 #[derive(Clone, Copy)]
 pub struct Offsets {
-    rows: [[Option<usize>; HOSTS]; HOSTS],
+    rows: [[Option<usize>; SIDE]; SIDE],
 }
 
 impl Offsets {
@@ -17,7 +19,7 @@ impl Offsets {
         ensures { result.rows ≡ no_offsets }
     {
         Offsets {
-            rows: [[None; HOSTS]; HOSTS],
+            rows: [[None; SIDE]; SIDE],
         }
     }
 
@@ -29,12 +31,12 @@ impl Offsets {
         *row.get(usize::from(sender))?
     }
 
-    // The pair's entry begins at the offset. Nothing is kept for a host that no set of hosts can name.
+    // The pair's entry begins at the offset. Nothing is kept for a host that no set of hosts can name. (Of two `get_mut` one in the other the proof did not close.)
     pub fn file(&mut self, recipient: u8, sender: u8, offset: usize)
         ensures { self.new.rows ≡ filed self.old.rows recipient sender offset }
     {
         let (i, j) = (usize::from(recipient), usize::from(sender));
-        if i < HOSTS && j < HOSTS {
+        if i < SIDE && j < SIDE {
             self.rows[i][j] = Some(offset);
         }
     }

@@ -24,7 +24,7 @@ pub trait BodySort {
     // what was read, as a body of any sort
     ghost body: { Self.Read → Body };
 
-    // Reads one at the front of the span.
+    // Reads one at the front of the span. Limits are passed apart, since they stay while spans move on.
     fn read(span: Span, limits: Limits) -> Result<Part<Self::Read>, Fault>
         ensures answer { result ≡ reading limits span.entry.bytes.now span.entry.offset }
         ensures within { Within span.entry.bytes.now result };

@@ -85,10 +85,10 @@ fn read_front(span: Span, limits: Limits) -> Result<Part<Warrant>, Fault>
     ensures answer { result ≡ warrant_front limits span.entry.bytes.now span.entry.offset }
     ensures within { Within span.entry.bytes.now result }
 {
-    let word = u32::from_be_bytes(span.first_bytes(Layer::Body)?);
-    let place = (word / 0x800_0000) as u8;
-    let phase = (word / 0x1_0000 % 2048) as u16;
-    let signers = (word % 0x1_0000) as u16;
+    let [first, second, high, low] = span.first_bytes::<4>(Layer::Body)?;
+    let place = first / 8;
+    let phase = u16::from_be_bytes([first % 8, second]);
+    let signers = u16::from_be_bytes([high, low]);
     if place >= limits.places {
         return Err(span.fault(Refusal::UnknownPlace, Layer::Body));
     }

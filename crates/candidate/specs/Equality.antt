@@ -30,10 +30,10 @@ equal_lengths UntilClose (Days n) = false
 equal_lengths UntilClose (Months n) = false
 equal_lengths UntilClose UntilClose = true
 
--- terms are equal when they are equally long, however they are spelled
+-- how long a term is
 abbrev pub length_of : Term → Length
 length_of t = length_in t.unit t.count
 
--- one length makes one term
+-- terms are equal when they are equally long, however they are spelled
 abbrev pub equal_terms : Term → Term → Bool
 equal_terms a b = equal_lengths (length_of a) (length_of b)

@@ -26,7 +26,7 @@ pub enum Entry {
     Forged(Letter),
 }
 
-// An entry as it was met in a bag: the bodies of a forged letter are still bytes, borrowed from the bag, with their offset.
+// An entry as it was met in a bag: the bodies of a forged letter are still bytes, borrowed from the bag, with their offset. The cases are those of `Entry`, by the same rule.
 #[derive(Clone, Copy)]
 pub enum RawEntry<'a> {
     Carried,

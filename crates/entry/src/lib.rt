@@ -46,7 +46,7 @@ impl Head {
         })
     }
 
-    // Refuses a head by the first thing that is wrong with it, in a round whose letters have at most so many bodies.
+    // Refuses a head by the first thing that is wrong with it, in a round whose letters have at most so many bodies. That its pair was met only the bag knows.
     pub fn check(&self, limits: Limits, most: u8, is_met: bool) -> Result<(), Refusal>
         ensures { result ≡ unless (first_that_holds (head_tests limits most (λ _ _. is_met) self.now)) tt }
     {

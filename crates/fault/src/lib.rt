@@ -106,7 +106,7 @@ impl Layer {
     }
 }
 
-// Why and where a call was refused. The offset is that of the first byte of the part that was being read, counted from the bag's first; 0 in the call itself.
+// Why and where a call was refused. The offset is that of the first byte of the part that was being read, counted from the bag's first; in the call itself it is 0, and no option, since a fault is always three numbers outside.
 #[derive(Clone, Copy, Debug, Eq, PartialEq)]
 pub struct Fault {
     pub refusal: Refusal,

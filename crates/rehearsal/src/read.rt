@@ -51,6 +51,7 @@ pub(crate) fn read_head(bytes: &[u8]) -> Option<Head>
         n: first / 8,
         t: first % 8,
         m: second / 4,
+        // which unknown sort it is, is nowhere printed
         kind: Kind::try_from(second % 4).ok(),
         faulty: u16::from_be_bytes([high, low]),
     })

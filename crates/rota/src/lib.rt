@@ -33,14 +33,10 @@ pub trait Rota {
 fn turn_at(phase: u16, turns: u8) -> Option<u8>
     ensures { result ≡ turn_at phase turns }
 {
-    if turns > 0 && phase < PHASES {
-        Some((phase % u16::from(turns)) as u8)
-    } else {
-        None
-    }
+    (turns > 0 && phase < PHASES).then(|| (phase % u16::from(turns)) as u8)
 }
 
-// Phase k belongs to host k mod the number of hosts, which is 0 where the rota was made from a bad number.
+// Phase k belongs to host k mod the number of hosts. A rota that was made from a bad number has no hosts: making one cannot fail, and a council refuses it.
 #[derive(Clone, Copy)]
 pub struct TurnByTurn {
     hosts: u8,

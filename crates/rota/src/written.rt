@@ -71,9 +71,6 @@ impl Rota for WrittenRota {
     }
 
     fn owner_of(&self, phase: u16) -> u8 {
-        match turn_at(phase, self.len) {
-            Some(turn) => self.entries[usize::from(turn)],
-            None => 0,
-        }
+        turn_at(phase, self.len).map_or(0, |turn| self.entries[usize::from(turn)])
     }
 }

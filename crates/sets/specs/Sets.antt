@@ -1,6 +1,7 @@
 -- Sets of hosts and of candidates as masks, in which member i weighs 2 ^ i, and tests over the numbers below a bound.
 use Rattle.std.specs.Prelude.{ℕ, zero, suc, ◌+◌, ◌/◌, ◌%◌, ◌^◌, Bool, true, false, cond, not, ◌&&◌, ◌||◌, List, map, Some, None, Option, ◌==◌, nat_le, nat_lt}
 use Rattle.std.specs.List.{range_with_len}
+use Rattle.std.specs.Option.{option_or}
 
 -- the set has member i
 unfoldable pub has : ℕ → ℕ → Bool
@@ -41,15 +42,10 @@ only_below n hosts = all_below 16 (λ j. nat_lt j n || not (has hosts j))
 abbrev pub is_mask_of : ℕ → ℕ → Bool
 is_mask_of n mask = nat_lt mask (2 ^ n)
 
--- the first of two that is there
-abbrev pub or_else : {X : Type 0} → Option X → Option X → Option X
-or_else None o = o
-or_else (Some x) o = Some x
-
 -- the lowest number below n that passes
 unfoldable pub lowest : ℕ → (ℕ → Bool) → Option ℕ
 lowest zero p = None
-lowest (suc n) p = or_else (lowest n p) (cond (p n) (Some n) None)
+lowest (suc n) p = option_or (lowest n p) (cond (p n) (Some n) None)
 
 -- the list with f j for each host j that a mask can name
 unfoldable pub per_host : {X : Type 0} → (ℕ → X) → List X

@@ -5,7 +5,7 @@ ghost use Rattle.std.specs.Prelude.{◌≡◌};
 ghost use Rattle.sets.specs.Sets.{count, has, is_host_count, is_mask_of, only_below};
 
 // The most hosts that a council has, and that a mask can name.
-const HOSTS: u8 = 16;
+pub const HOSTS: u8 = 16;
 
 // Phases are numbered from 0 to 2,047.
 pub const PHASES: u16 = 2048;

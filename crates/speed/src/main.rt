@@ -5,6 +5,7 @@ use book::Book;
 use grid::Grid;
 use keeper::Keeper;
 use keeper::position::{Position, Sort};
+use std::alloc::{AllocError, Global};
 use std::time::{Duration, Instant};
 use std::{env, fmt, io};
 
@@ -93,25 +94,36 @@ fn measure<K: Keeper>(
     Ok(Measured { name, seal, ask })
 }
 
-// A book and a grid are made by functions of their own, which no trait joins: so one function for each.
-fn measure_book(rt: &HostRuntime, positions: u32) -> io::Result<Measured> {
-    let mut book = Book::new(rt.alloc(), 16, 0, positions as usize)?;
-    measure(rt, "book", &mut book, positions)
-}
-
-fn measure_grid(rt: &HostRuntime, positions: u32) -> io::Result<Measured> {
-    let mut grid = Grid::new(rt.alloc(), 16, 0, positions as usize)?;
-    measure(rt, "grid", &mut grid, positions)
+// The same of a new keeper, which `new` makes.
+fn measure_new<K, F>(
+    rt: &HostRuntime,
+    name: &'static str,
+    new: F,
+    positions: u32,
+) -> io::Result<Measured>
+where
+    K: Keeper + Drop,
+    F: FnOnce(Global, u8, u16, usize) -> Result<K, AllocError> + Drop,
+    requires { (heap : _) (n : _) (opened : _) (room : _) → F.pre new heap n opened room }
+{
+    let mut keeper = new(rt.alloc(), 16, 0, positions as usize)?;
+    measure(rt, name, &mut keeper, positions)
 }
 
 fn main(rt: HostRuntime) -> io::Result<()> {
     if env::args(&rt)?.count() <= 1 {
-        println!(rt; "{}", measure_book(&rt, 2048)?)?;
-        return println!(rt; "{}", measure_grid(&rt, 2048)?);
+        println!(rt; "{}", measure_new(&rt, "book", Book::new, 2048)?)?;
+        return println!(rt; "{}", measure_new(&rt, "grid", Grid::new, 2048)?);
     }
     for positions in [2048, 8192, 65536] {
-        println!(rt; "{}", Timed(measure_book(&rt, positions)?))?;
-        println!(rt; "{}", Timed(measure_grid(&rt, positions)?))?;
+        println!(rt;
+            "{}",
+            Timed(measure_new(&rt, "book", Book::new, positions)?)
+        )?;
+        println!(rt;
+            "{}",
+            Timed(measure_new(&rt, "grid", Grid::new, positions)?)
+        )?;
     }
     Ok(())
 }

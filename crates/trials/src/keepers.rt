@@ -23,7 +23,7 @@ fn nth_position(i: u16, phases: u16) -> Position {
     }
 }
 
-// The number of a refusal, or 0.
+// The number of a refusal, or 0: the tables have the numbers by which answers are known outside.
 fn number(answer: Result<(), Refusal>) -> u8 {
     answer.err().map_or(0, |refusal| refusal.number())
 }

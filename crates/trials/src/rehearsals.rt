@@ -20,6 +20,19 @@ fn prints(rt: &impl Abort, heap: Global, bytes: &[u8], text: &str) -> Result<(),
     Ok(())
 }
 
+// These bytes, with others behind them, print just this text.
+fn prints_behind(
+    rt: &impl Abort,
+    heap: Global,
+    front: &[u8],
+    behind: &[u8],
+    text: &str,
+) -> Result<(), Fail> {
+    let mut bytes = front.to_vec(heap)?;
+    bytes.extend_from_slice(behind)?;
+    prints(rt, heap, &bytes, text)
+}
+
 // What good setups of one, four and sixteen honest hosts print.
 const ONE: &str = "0 open\n";
 
@@ -125,14 +138,18 @@ const ONE_SNAPSHOT: [u8; 20] = [
 // The candidate is two years, and the input 24 months.
 const ONE_TERM: [u8; 8] = [0x08, 0x05, 0, 0, 0x80, 2, 0x40, 24];
 
+// Wherever it is cut off, a setup prints `short`.
+fn each_cut_is_short(rt: &impl Abort, heap: Global, whole: &[u8]) -> Result<(), Fail> {
+    for cut in 0..whole.len() {
+        prints(rt, heap, &whole[..cut], "short\n")?;
+    }
+    Ok(())
+}
+
 #[test]
 fn every_cut_of_a_setup_is_short(rt: HostRuntime) -> Result<(), Fail> {
-    for cut in 0..ONE_SNAPSHOT.len() {
-        prints(&rt, rt.alloc(), &ONE_SNAPSHOT[..cut], "short\n")?;
-    }
-    for cut in 0..ONE_TERM.len() {
-        prints(&rt, rt.alloc(), &ONE_TERM[..cut], "short\n")?;
-    }
+    each_cut_is_short(&rt, rt.alloc(), &ONE_SNAPSHOT)?;
+    each_cut_is_short(&rt, rt.alloc(), &ONE_TERM)?;
     prints(&rt, rt.alloc(), &ONE_SNAPSHOT, ONE)?;
     prints(&rt, rt.alloc(), &ONE_TERM, ONE)
 }
@@ -171,9 +188,7 @@ const SPELLINGS: [([u8; 6], &str); 9] = [
 #[test]
 fn terms_are_equal_by_length(rt: HostRuntime) -> Result<(), Fail> {
     for (behind, text) in SPELLINGS {
-        let mut bytes = [8, 9, 0, 0].to_vec(rt.alloc())?;
-        bytes.extend_from_slice(&behind)?;
-        prints(&rt, rt.alloc(), &bytes, text)?;
+        prints_behind(&rt, rt.alloc(), &[8, 9, 0, 0], &behind, text)?;
     }
     Ok(())
 }
@@ -233,9 +248,7 @@ const BAGS: [(&[u8], &str); 8] = [
 #[test]
 fn bags_are_counted_and_not_played(rt: HostRuntime) -> Result<(), Fail> {
     for (behind, text) in BAGS {
-        let mut bytes = ONE_TERM.to_vec(rt.alloc())?;
-        bytes.extend_from_slice(behind)?;
-        prints(&rt, rt.alloc(), &bytes, text)?;
+        prints_behind(&rt, rt.alloc(), &ONE_TERM, behind, text)?;
     }
     Ok(())
 }

@@ -33,7 +33,7 @@ const INPUTS: [Term; 3] = [
     },
 ];
 
-// The setup number of n hosts, none of them faulty.
+// The setup number of n hosts, none of them faulty: the tests have the numbers by which answers are known outside.
 fn number<R: Rota>(n: u8, inputs: &[Term], rota: &R) -> u8 {
     let setup = Setup {
         n,
@@ -43,10 +43,7 @@ fn number<R: Rota>(n: u8, inputs: &[Term], rota: &R) -> u8 {
         inputs,
         rota,
     };
-    match setup.judge() {
-        Ok(_) => 0,
-        Err(refusal) => refusal.number(),
-    }
+    setup.judge().err().map_or(0, |refusal| refusal.number())
 }
 
 #[test]

@@ -38,7 +38,7 @@ impl<'a> Span<'a> {
         }
     }
 
-    // The first n bytes.
+    // The first n bytes. (Of `behind` nothing is shared: these are the other bytes, and the offset stays.)
     pub fn front(&self, n: usize) -> Span<'a>
         ensures bytes { result.bytes.now ≡ take n self.now.bytes.now }
         ensures offset { result.offset ≡ self.now.offset }

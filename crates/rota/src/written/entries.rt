@@ -2,7 +2,7 @@
 ghost use Rattle.std.specs.Prelude.{◌≡◌, ◌<◌, ◌≤◌, true};
 ghost use Rattle.rota.specs.Cycles.{names_exactly};
 
-// The first `len` entries are the owners of the phases, over and over. There are no hosts where it was made from bad entries.
+// The first `len` entries are the owners of the phases, over and over. There are no hosts where it was made from bad entries: making one cannot fail, and a council refuses it.
 // They are an array with a length beside it: a rota is `Copy`, and an `ArrayVec` is not.
 #[derive(Clone, Copy)]
 pub struct WrittenRota {
