@@ -71,7 +71,7 @@ def own_options(code):
     """Enums of which some cases hold something and just one holds nothing."""
     places = []
     for path, text in code.items():
-        for found in re.finditer(r"enum (\w+)[^{]*\{\n(.*?)^\}", text, re.M | re.S):
+        for found in re.finditer(r"^(?:pub )?enum (\w+)[^{\n]*\{\n(.*?)^\}", text, re.M | re.S):
             body = re.sub(r"//.*|\{[^}]*\}", "()", found.group(2))
             cases = re.findall(r"^    (\w+)(\()?", body, re.M)
             plain = [name for name, holds in cases if not holds]
@@ -109,6 +109,14 @@ def twins(all_functions):
     return sorted(places, reverse=True)
 
 
+def twice(code):
+    counted = defaultdict(list)
+    for path, text in code.items():
+        for found in re.finditer(r"^ *(?:pub )?const (\w+):", text, re.M):
+            counted[found.group(1)].append(path)
+    return [f"{name}: {', '.join(paths)}" for name, paths in counted.items() if len(set(paths)) > 1]
+
+
 def repeated_clauses(all_functions):
     counted = defaultdict(list)
     for path, line, name, _, clauses, _ in all_functions:
@@ -124,7 +132,7 @@ def travelling_parameters(all_functions):
     for path, line, name, signature, _, _ in all_functions:
         if "#[test]" in signature:
             continue
-        names = [n for n in re.findall(r"(\w+): &?[\w<\[(']", signature) if n not in ("rt", "heap", "f")]
+        names = [n for n in re.findall(r"(\w+): &?[\w<\[(']", signature) if n not in ("rt", "heap", "f") and not n.isupper()]
         for pair in itertools.combinations(sorted(set(names)), 2):
             counted[pair].append(f"{path}:{line} {name}")
     return [f"{len(where)} times: {', '.join(pair)} ({'; '.join(where)})" for pair, where in sorted(counted.items(), key=lambda c: -len(c[1])) if len(where) > 2]
@@ -137,8 +145,9 @@ def main():
     show("1 own enums of the shape of Option", own_options(code))
     show("1 flags", grep(code, r"^\s*(pub(\(crate\))? )?\w+: bool,|fn .*\w+: bool"))
     show("1 tables of numbers", number_tables(every))
-    show("1 refusals that are not in a Result, and answers dropped", grep(code, r"Option<Refusal>|\.ok\(\)|fn number"))
+    show("1 refusals that are not in a Result, and answers dropped", grep(code, r"Option<Refusal>|\.ok\(\)|if let Err|fn number\b"))
     show("2 twins", twins(every))
+    show("2 constants that stand twice", twice(code))
     show("3 loops", grep(code, r"^\s*(for|while|loop)\b.*\{$"))
     show("4 equality, conversion and printing", [f"{p}:{n}: {name}" for p, n, name, *_ in every if re.match(r"(equals|is_same|print|number|code|kind_of|unit_of|add_line|cell_of|fmt|from|try_from)$", name)])
     show("5 facts in three contracts or more", repeated_clauses(every))

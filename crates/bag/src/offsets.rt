@@ -7,7 +7,7 @@ use sets::HOSTS;
 // As many rows, and cells in each, as a set of hosts can name.
 const SIDE: usize = HOSTS as usize;
 
-// How many bytes stand between the bag's head and each pair's entry: a row for each recipient that a set of hosts can name, with a cell for each sender. The two are passed apart, as the two indices of a table are.
+// How many bytes stand between the bag's head and each pair's entry: a row for each recipient that a set of hosts can name, with a cell for each sender. Recipient and sender are passed apart, as the indices of a table are.
 #[derive(Clone, Copy)]
 pub struct Offsets {
     rows: [[Option<usize>; SIDE]; SIDE],

@@ -98,7 +98,7 @@ pub enum Layer {
 }
 
 impl Layer {
-    // The number by which a layer is known outside.
+    // The number by which a layer is known outside, got as a refusal's and a round's are: a trait for the three would be longer.
     pub fn number(&self) -> u8
         ensures { result ≡ layer_number self.now }
     {

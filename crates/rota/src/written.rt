@@ -25,7 +25,7 @@ fn name_all(entries: &[u8], n: u8) -> bool
     (0..n).all(|host| entries.contains(&host))
 }
 
-// Whether the entries can be a rota of n hosts.
+// Whether the entries can be a rota of n hosts. The two are passed apart until `WrittenRota` holds them.
 fn are_rota(entries: &[u8], n: u8) -> bool
     ensures { result ≡ is_written n entries.now }
 {

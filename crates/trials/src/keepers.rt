@@ -215,6 +215,7 @@ fn asks<K: Keeper>(rt: &impl Abort, keeper: &mut K) {
     }
 }
 
+// Here and below a test calls once for the book and once for the grid: a closure cannot be generic in the keeper.
 #[test]
 fn genuine_is_what_was_sealed(rt: HostRuntime) -> Result<(), Fail> {
     asks(&rt, &mut Book::new(rt.alloc(), 4, 8, 64)?);

@@ -9,7 +9,7 @@ use fault::Refusal;
 use sets::{PHASES, has_host, has_only_below, is_host_count};
 
 impl Bounds {
-    // The bounds of a new keeper with room for so many numbers: all 0 where n is no number of hosts, or a host that there is not is open. No refusal: a keeper is made of whatever is given.
+    // The bounds of a new keeper with room for so many numbers: all 0 where n is no number of hosts, or a host that there is not is open. No refusal: a keeper is made of whatever is given, and this is the struct that holds it together.
     pub fn new(n: u8, opened: u16, room: usize) -> Bounds
         ensures { kept result nothing ≡ fresh n opened room }
     {
