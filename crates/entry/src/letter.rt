@@ -2,7 +2,7 @@
 use body::kinds::Body;
 use parts::span::Span;
 
-// The bodies of a letter, at most two by type. An array of options could leave out the first of two.
+// The bodies of a letter, at most two by type. An array of options could leave out the first of two, and the library's `ArrayVec` is not `Copy`.
 #[derive(Clone, Copy)]
 pub enum Bodies {
     None,

@@ -11,7 +11,7 @@ use fault::Refusal;
 use rota::Rota;
 use sets::{count_hosts, has_host, has_only_below, is_host_count};
 
-// The place of each honest host's input among the candidates, and none for the others.
+// The place of each honest host's input among the candidates, and none for the others: one for each host that a set of hosts can name.
 #[derive(Clone, Copy)]
 pub struct InputPlaces {
     pub places: [Option<u8>; 16],

@@ -102,6 +102,7 @@ fn begins<K: Keeper>(rt: &impl Abort, keeper: &mut K, new: State) {
     assert_eq!(rt; number(keeper.seal(past, 1)), refused);
 }
 
+// Here and below a test calls once for the book and once for the grid: a closure cannot be generic in the keeper.
 #[test]
 fn made_for_so_many_phases(rt: HostRuntime) -> Result<(), Fail> {
     for (n, given, room, hosts, opened, horizon) in MAKINGS {
@@ -215,7 +216,6 @@ fn asks<K: Keeper>(rt: &impl Abort, keeper: &mut K) {
     }
 }
 
-// Here and below a test calls once for the book and once for the grid: a closure cannot be generic in the keeper.
 #[test]
 fn genuine_is_what_was_sealed(rt: HostRuntime) -> Result<(), Fail> {
     asks(&rt, &mut Book::new(rt.alloc(), 4, 8, 64)?);

@@ -138,7 +138,7 @@ const ONE_SNAPSHOT: [u8; 20] = [
 // The candidate is two years, and the input 24 months.
 const ONE_TERM: [u8; 8] = [0x08, 0x05, 0, 0, 0x80, 2, 0x40, 24];
 
-// Wherever it is cut off, a setup prints `short`.
+// Wherever it is cut off, a setup prints `short`. (A slice has no iterator over its fronts.)
 fn each_cut_is_short(rt: &impl Abort, heap: Global, whole: &[u8]) -> Result<(), Fail> {
     for cut in 0..whole.len() {
         prints(rt, heap, &whole[..cut], "short\n")?;

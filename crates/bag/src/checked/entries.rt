@@ -64,7 +64,7 @@ pub(crate) fn read_again<B: BodySort>(span: Span, limits: Limits) -> Result<Entr
     decode::<B>(&content.value, limits)
 }
 
-// Where the entries begin that stand one behind the other, each where the one before it ends. The limits are the council's, and the most bodies the round's, so they are passed apart.
+// Where the entries begin that stand one behind the other, each where the one before it ends: a chain would have to carry the place and the table along. The limits are the council's, and the most bodies the round's, so they are passed apart.
 pub(crate) fn read_entries<B: BodySort>(
     span: Span,
     count: u8,
