@@ -17,9 +17,9 @@ no_offsets = replicate 16 (replicate 16 None)
 abbrev pub row_of : Rows → ℕ → List (Option ℕ)
 row_of rows i = slice_index_or rows i []
 
--- what is in the cell of a recipient and a sender
+-- what is in the cell of a recipient and a sender; for a host that no mask can name, nothing
 abbrev pub offset_of : Rows → ℕ → ℕ → Option ℕ
-offset_of rows i j = slice_index_or (row_of rows i) j None
+offset_of rows i j = if is_pair i j then slice_index_or (row_of rows i) j None else None
 
 -- the table with an offset more; for a host that no mask can name, as it was
 abbrev pub filed : Rows → ℕ → ℕ → ℕ → Rows

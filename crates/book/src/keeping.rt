@@ -7,7 +7,7 @@ ghost use Rattle.std.proofs.Common.{rules};
 use crate::Book;
 use crate::row::Row;
 use fault::Refusal;
-use keeper::Keeper;
+use keeper::MapKeeper;
 use keeper::bounds::Bounds;
 use keeper::position::Position;
 use std::alloc::{AllocError, Global};
@@ -23,7 +23,7 @@ impl Book {
     }
 }
 
-impl Keeper for Book {
+impl MapKeeper for Book {
     ghost keeping = { keeping_of };
 
     ghost sound = { Prim.search rules };
@@ -35,7 +35,7 @@ impl Keeper for Book {
     fn number_at(&self, at: Position) -> Option<u32> {
         self.rows
             .iter()
-            .find(|row| row.position == at)
+            .find(|row| row.position.is_same(at))
             .map(|row| row.number)
     }
 

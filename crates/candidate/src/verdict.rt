@@ -16,6 +16,8 @@ impl<C: Printable> fmt::Display for Verdict<C> {
     ghost output = { λ v. Some (verdict_text C.Printable.text v) };
 
     fn fmt<W: fmt::Write>(&self, f: &mut fmt::Formatter<W>) -> fmt::Result {
-        write!(f, "{} at {}", self.candidate, self.phase)
+        // the formatter goes on to the candidate, which may look at its options
+        self.candidate.fmt(f)?;
+        write!(f, " at {}", self.phase)
     }
 }

@@ -1,6 +1,5 @@
 // Letters, and the entries of a bag by which they reach a host.
 use body::kinds::Body;
-use parts::span::Span;
 
 // The bodies of a letter, at most two by type. An array of options could leave out the first of two, and the library's `ArrayVec` is not `Copy`.
 #[derive(Clone, Copy)]
@@ -27,6 +26,7 @@ pub enum Entry {
 }
 
 // An entry as it was met in a bag: the bodies of a forged letter are still bytes, borrowed from the bag, with their offset. The cases are those of `Entry`, by the same rule.
+// Bytes and offset are apart, and no `Span`, so that `decode` takes any offset.
 #[derive(Clone, Copy)]
 pub enum RawEntry<'a> {
     Carried,
@@ -34,7 +34,8 @@ pub enum RawEntry<'a> {
         input: u8,
         proper: u32,
         count: u8,
-        bodies: Span<'a>,
+        bodies: &'a [u8],
+        offset: usize,
     },
 }
 

@@ -6,14 +6,14 @@ ghost use Rattle.fault.specs.declared.Layer.TheVariants as layers;
 ghost use Rattle.fault.specs.Refusals.{first_that_holds, unless};
 ghost use Rattle.parts.specs.Numbers.{word};
 ghost use Rattle.parts.specs.Reading.{Within, giving, part};
-ghost use Rattle.entry.specs.Entries.{bodies_of, content, fields, head_tests};
-ghost use Rattle.entry.specs.Raw.{Borrows, entry_in, entry_of, opened};
+ghost use Rattle.entry.specs.Entries.{bodies_of, content, fields, head_tests, met};
+ghost use Rattle.entry.specs.Raw.{Borrows, entry_in, entry_of, met_of, opened};
 
 use body::BodySort;
 use body::kinds::Limits;
 use body::sorts::read_places;
 use fault::{Fault, Layer, Refusal};
-use letter::{Bodies, Entry, Head, Letter, RawEntry};
+use letter::{Bodies, Entry, Head, Letter, MetEntry, RawEntry};
 use parts::span::{Part, Span};
 use sets::has_host;
 
@@ -116,9 +116,10 @@ pub fn decode<B: BodySort>(entry: &RawEntry, limits: Limits) -> Result<Entry, Fa
             input,
             proper,
             count,
-            bodies,
+            bodies: bytes,
+            offset,
         } => {
-            let bodies = read_bodies::<B>(bodies, count, limits)?;
+            let bodies = read_bodies::<B>(Span::at(bytes, offset), count, limits)?;
             Ok(Entry::Forged(Letter {
                 input,
                 proper,
@@ -129,7 +130,7 @@ pub fn decode<B: BodySort>(entry: &RawEntry, limits: Limits) -> Result<Entry, Fa
 }
 
 // What stands behind the head of an entry.
-pub fn read_content<'a, B: BodySort>(
+fn read_raw<'a, B: BodySort>(
     span: Span<'a>,
     head: Head,
     limits: Limits,
@@ -147,13 +148,36 @@ pub fn read_content<'a, B: BodySort>(
     let proper = read_places(span, Layer::Entry, limits)?;
     let rest = span.behind(proper.size);
     let bodies = read_bodies::<B>(rest, head.count, limits)?;
+    let own = rest.front(bodies.size);
     Ok(Part {
         value: RawEntry::Forged {
             input: head.input,
             proper: proper.value,
             count: head.count,
-            bodies: rest.front(bodies.size),
+            bodies: own.bytes,
+            offset: own.offset,
         },
         size: proper.size + bodies.size,
+    })
+}
+
+// The same, with the pair that the head names.
+pub fn read_content<'a, B: BodySort>(
+    span: Span<'a>,
+    head: Head,
+    limits: Limits,
+) -> Result<Part<MetEntry<'a>>, Fault>
+    ensures answer { opened (met_of (giving B.BodySort.body (B.BodySort.reading limits))) result ≡ giving (λ e. Some (met head.recipient head.sender e)) (content limits (giving B.BodySort.body (B.BodySort.reading limits)) head) span.entry.bytes.now span.entry.offset }
+    ensures borrowed { IfOk result (λ p. Borrows p.value.entry p.size span.entry.bytes.now span.entry.offset) }
+    ensures within { Within span.entry.bytes.now result }
+{
+    let content = read_raw::<B>(span, head, limits)?;
+    Ok(Part {
+        value: MetEntry {
+            recipient: head.recipient,
+            sender: head.sender,
+            entry: content.value,
+        },
+        size: content.size,
     })
 }

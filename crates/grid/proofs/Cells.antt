@@ -11,7 +11,7 @@ use Rattle.keeper.specs.declared.position.Position.{Position}
 use Rattle.keeper.specs.Bounding.{kept, positions}
 use Rattle.keeper.specs.Keeping.{is_inside, nothing, same_position, with_number, sealing, sealed}
 use Rattle.keeper.proofs.Positions.{same_is, same_itself}
-use Rattle.keeper.proofs.Sealings.{free_inside, sealed_held}
+use Rattle.keeper.proofs.Sealings.{accepted_inside, sealed_held}
 use Rattle.grid.specs.Cells.{sort_index, cell_of, in_cells}
 
 -- the index of a sort is 0 or 1
@@ -67,7 +67,7 @@ cells_set b cells at x long i p = by (same_position at p) (is_inside (kept b not
 pub sealed_cells : (b : Bounds) (cells : List (Option ℕ)) (at : Position) (x : ℕ) → positions b ≤ length cells → Ok tt ≡ sealing (kept b (in_cells b cells)) at → kept b (in_cells b (set cells (cell_of b.horizon at) (Some x))) ≡ sealed (kept b (in_cells b cells)) at x
 sealed_cells b cells at x long ok =
     let k = kept b (in_cells b cells) in
-    ap (kept b) (fun_ext (cells_set b cells at x long (free_inside k at ok)) ∙ sym (sealed_held k at x ok))
+    ap (kept b) (fun_ext (cells_set b cells at x long (accepted_inside k at ok)) ∙ sym (sealed_held k at x ok))
 
 -- cells that hold nothing
 pub cells_none : (b : Bounds) (n : ℕ) → positions b ≤ n → in_cells b (replicate n None) ≡ nothing

@@ -7,7 +7,7 @@ ghost use Rattle.std.proofs.Common.{rules};
 
 use crate::Grid;
 use fault::Refusal;
-use keeper::Keeper;
+use keeper::MapKeeper;
 use keeper::bounds::Bounds;
 use keeper::position::Position;
 use std::alloc::{AllocError, Global};
@@ -35,7 +35,7 @@ impl Grid {
     }
 }
 
-impl Keeper for Grid {
+impl MapKeeper for Grid {
     ghost keeping = { keeping_of };
 
     ghost sound = { Prim.search rules };

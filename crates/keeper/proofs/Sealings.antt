@@ -51,8 +51,12 @@ pub sealed_refused : (k : Keeping) (at : Position) (x : ℕ) (f : Refusal) → E
 sealed_refused k at x f e = sym (sealed_not k at x (has_refusal tt (seal_fault k at) f e))
 
 -- a position where a number can be sealed is inside
-pub free_inside : (k : Keeping) (at : Position) → Ok tt ≡ sealing k at → is_inside k at ≡ true
-free_inside k at e = let f = free k at e in grind (arith, nat_tests)
+pub free_inside : (k : Keeping) (at : Position) → Free k at → is_inside k at ≡ true
+free_inside k at f = grind (arith, nat_tests)
+
+-- so one of an accepted sealing is
+pub accepted_inside : (k : Keeping) (at : Position) → Ok tt ≡ sealing k at → is_inside k at ≡ true
+accepted_inside k at e = free_inside k at (free k at e)
 
 -- a sealing that put its number at a position
 pub record New (k : Keeping) (at : Position) (x : ℕ) (p : Position) : Type 0 where
@@ -72,7 +76,7 @@ sealed_at k at x p = ⊎_elim
     ⊎_elim
     (λ e.
     let q = same_is at p e in
-    inr (record { ok = ok; here = q; inside = sym (ap (is_inside k) q) ∙ free_inside k at ok; none = sym (ap k.held q) ∙ (free k at ok).none; now = new ∙ cond-true (same_position at p) (Some x) _ e }))
+    inr (record { ok = ok; here = q; inside = sym (ap (is_inside k) q) ∙ accepted_inside k at ok; none = sym (ap k.held q) ∙ (free k at ok).none; now = new ∙ cond-true (same_position at p) (Some x) _ e }))
     (λ e. inl (new ∙ with_other k.held at x p e))
     (cases_Bool (same_position at p)))
     (cases_Bool (is_some (seal_fault k at)))

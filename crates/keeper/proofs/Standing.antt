@@ -9,7 +9,7 @@ use Rattle.keeper.specs.declared.position.Position.{Position}
 use Rattle.keeper.specs.Keeping.{Keeping, Map, holding, is_inside, holds, is_genuine, sealing, sealed, empty}
 use Rattle.keeper.specs.Seals.{Sealings, sealed_all, ForGood, SealedIn, Authentic}
 use Rattle.keeper.proofs.Positions.{with_here}
-use Rattle.keeper.proofs.Sealings.{sealed_at, free_inside, sealed_held}
+use Rattle.keeper.proofs.Sealings.{sealed_at, accepted_inside, sealed_held}
 
 -- hosts, open hosts and horizon stay
 bounds_stay : (k : Keeping) (later : Sealings) → sealed_all k later ≡ holding k (sealed_all k later).held
@@ -60,7 +60,7 @@ genuine_for_good k at x e =
 
 -- a number that is sealed is genuine
 sealed_genuine : (k : Keeping) (at : Position) (x : ℕ) → Ok tt ≡ sealing k at → is_genuine (sealed k at x) at x ≡ true
-sealed_genuine k at x ok = genuine_from (sealed k at x) at x (free_inside k at ok) (inr (ap (λ (m : Map). m at) (sealed_held k at x ok) ∙ with_here k.held at x))
+sealed_genuine k at x ok = genuine_from (sealed k at x) at x (accepted_inside k at ok) (inr (ap (λ (m : Map). m at) (sealed_held k at x ok) ∙ with_here k.held at x))
 
 -- so an accepted sealing is for good
 pub sealing_for_good : (k l : Keeping) (at : Position) (x : ℕ) (r : Result (Unit {0}) Refusal) → r ≡ sealing k at → l ≡ sealed k at x → IfOk r (λ _. ForGood l at x)

@@ -17,6 +17,39 @@ pub mod position;
 pub trait Keeper {
     ghost keeping: { Self → Keeping };
 
+    // How many hosts take part.
+    fn host_count(&self) -> u8
+        ensures { result ≡ (keeping self.now).hosts };
+
+    // The set of hosts that are open (faulty): any number passes for theirs.
+    fn open_hosts(&self) -> u16
+        ensures { result ≡ (keeping self.now).opened };
+
+    // The number of phases for which numbers can be sealed.
+    fn horizon(&self) -> u16
+        ensures { result ≡ (keeping self.now).horizon };
+
+    // How many numbers are held.
+    fn held_count(&self) -> usize
+        ensures { result ≡ held_count (keeping self.now) };
+
+    // Whether the number counts as sealed by its host.
+    fn is_genuine(&self, at: Position, number: u32) -> bool
+        ensures { result ≡ is_genuine (keeping self.now) at number };
+
+    // Seals one number more, or refuses and keeps all as it was.
+    fn seal(&mut self, at: Position, number: u32) -> Result<(), Refusal>
+        ensures answer { result ≡ sealing (keeping self.old) at }
+        ensures after { keeping self.new ≡ sealed (keeping self.old) at number };
+
+    ghost sound: { (k : Self) → Sound (keeping k) };
+}
+
+// A keeper that can also say which number it holds: it writes four functions, and what else is asked follows from its bounds and its numbers.
+// It is a `Keeper` by the impl below. Not every keeper is one: no answer of a `Keeper` tells the number of an open host.
+pub trait MapKeeper {
+    ghost keeping: { Self → Keeping };
+
     // The hosts that take part, those that are open, and the phases.
     fn bounds(&self) -> Bounds
         ensures { kept result (keeping self.now).held ≡ keeping self.now };
@@ -70,6 +103,37 @@ pub trait Keeper {
     }
 
     ghost sound: { (k : Self) → Sound (keeping k) };
+}
+
+// A keeper that can say which number it holds is a keeper.
+impl<K: MapKeeper> Keeper for K {
+    ghost keeping = { K.MapKeeper.keeping };
+
+    ghost sound = { K.MapKeeper.sound };
+
+    fn host_count(&self) -> u8 {
+        MapKeeper::host_count(self)
+    }
+
+    fn open_hosts(&self) -> u16 {
+        MapKeeper::open_hosts(self)
+    }
+
+    fn horizon(&self) -> u16 {
+        MapKeeper::horizon(self)
+    }
+
+    fn held_count(&self) -> usize {
+        MapKeeper::held_count(self)
+    }
+
+    fn is_genuine(&self, at: Position, number: u32) -> bool {
+        MapKeeper::is_genuine(self, at, number)
+    }
+
+    fn seal(&mut self, at: Position, number: u32) -> Result<(), Refusal> {
+        MapKeeper::seal(self, at, number)
+    }
 }
 
 // Sees to it that a number is genuine: seals it, unless it is so already. May be called again after a run that was broken off.

@@ -50,10 +50,13 @@ pub names_none : (es : List ℕ) → names_exactly es 0 0 ≡ true
 unfolding all_below
 names_none es = refl
 
--- what stands behind the entries is not looked at
-pub names_front : (es front rest : List ℕ) (n : ℕ) → front ≡ es → names_exactly (front ++ rest) (length es) n ≡ names_exactly es (length es) n
-names_front es front rest n e =
-    let same : (i : ℕ) → i < length es → get_or (front ++ rest) i 0 ≡ get_or es i 0 = λ i l. rw e (get_or_append_left es rest 0 i l) in
-    let low = all_cong (length es) (λ i. ltb (get_or (front ++ rest) i 0) n) (λ i. ltb (get_or es i 0) n) (λ i l. ap (λ (x : ℕ). ltb x n) (same i l)) in
-    let each = all_cong n (names (front ++ rest) (length es)) (names es (length es)) (λ h _. any_cong (length es) (λ i. eqb (get_or (front ++ rest) i 0) h) (λ i. eqb (get_or es i 0) h) (λ i l. ap (λ (x : ℕ). eqb x h) (same i l))) in
+-- only the first entries count
+pub names_same : (es fs : List ℕ) (len : ℕ) → ((i : ℕ) → i < len → get_or fs i 0 ≡ get_or es i 0) → (n : ℕ) → names_exactly fs len n ≡ names_exactly es len n
+names_same es fs len same n =
+    let low = all_cong len (λ i. ltb (get_or fs i 0) n) (λ i. ltb (get_or es i 0) n) (λ i l. ap (λ (x : ℕ). ltb x n) (same i l)) in
+    let each = all_cong n (names fs len) (names es len) (λ h _. any_cong len (λ i. eqb (get_or fs i 0) h) (λ i. eqb (get_or es i 0) h) (λ i l. ap (λ (x : ℕ). eqb x h) (same i l))) in
     λ i. low i && each i
+
+-- so what stands behind the entries is not looked at
+pub names_front : (es front rest : List ℕ) (n : ℕ) → front ≡ es → names_exactly (front ++ rest) (length es) n ≡ names_exactly es (length es) n
+names_front es front rest n e = names_same es (front ++ rest) (length es) (λ i l. rw e (get_or_append_left es rest 0 i l)) n

@@ -1,29 +1,15 @@
 -- Candidates at their places.
-use Rattle.std.proofs.Common.{◌≡◌, ℕ, ◌<◌, ◌≤◌, Bool, true, false, eqb, not, ◌||◌, List, length, get_or, is_some, Some, None, Option, sym, refl, ap, ◌∙◌, inl, inr, zero-add, arith}
-use Rattle.std.specs.List.{slice_get, list_all, enumerate_from, position}
-use Rattle.std.specs.Option.{option_eq}
+use Rattle.std.proofs.Common.{◌≡◌, ℕ, ◌<◌, ◌≤◌, Bool, true, false, not, ◌||◌, List, length, get_or, take, is_some, Some, None, Option, sym, refl, ap, ◌∙◌, inl, inr, arith}
+use Rattle.std.specs.List.{slice_get, list_all, position}
 use Rattle.std.proofs.lemmas.Bool.{cases_order, true≢false, false≢true}
-use Rattle.std.proofs.lemmas.List.FromFn.{length-enumerate_from, get_or-enumerate_from}
-use Rattle.std.proofs.lemmas.Option.{slice_get_cases, slice_get-get_or}
-use Rattle.sets.specs.Sets.{has, all_below, lowest}
+use Rattle.std.proofs.lemmas.List.{length-take-le, get_or-take}
+use Rattle.std.proofs.lemmas.Option.{slice_get_cases, slice_get-get_or, slice_get_past}
+use Rattle.sets.specs.Sets.{has}
 use Rattle.sets.proofs.Lists.{all_list, position-lowest}
 use Rattle.sets.proofs.Masks.{get_or-per_host}
-use Rattle.sets.proofs.Tests.{all_true, all_false, all_each, find_first, lowest_is, lowest_none, lowest_some}
+use Rattle.sets.proofs.Tests.{all_true, all_each, lowest_is, lowest_none}
 use Rattle.setup.specs.Setup.{both_equal, new_at, distinct, place_of, place_at, places_of, all_placed}
 use Rattle.setup.specs.Placed.{OnlyPlace, Placed}
-
--- a place that passes is the lowest where none before it passes
-lowest_new : (n : ℕ) (q : ℕ → Bool) (i : ℕ) → i < n → q i ≡ true → option_eq eqb (lowest n q) (Some i) ≡ all_below i (λ k. not (q k))
-lowest_new n q i l here = elim (find_first n q) [
-  | inl none ↦ absurd (true≢false (sym here ∙ none i l))
-  | inr w ↦
-      let found = lowest_some n q w.0 w.1 w.2 w.3 in
-      elim (cases_order w.0 i) [
-        | inl same ↦ let all = all_true i (λ k. not (q k)) (λ k m. ap not (w.3 k (omega arith))) in grind arith
-        | inr (inl before) ↦ let all = all_false i (λ k. not (q k)) w.0 before (ap not w.2) in grind arith
-        | inr (inr after) ↦ absurd (true≢false (sym here ∙ w.3 i after))
-      ]
-]
 
 module _ {C : Type 0} (equal : C → C → Bool) where
   -- a candidate that is equal to an input is found where it stands
@@ -39,28 +25,17 @@ module _ {C : Type 0} (equal : C → C → Bool) where
   pub place_of-none : (cs : List C) → place_of equal cs None ≡ None
   place_of-none cs = lowest_none (length cs) (λ k. both_equal equal (slice_get cs k) None) (λ k l. none_equal (slice_get cs k))
 
-  -- a candidate at its place is the first that is equal to it
-  abbrev pub is_first : List C → ℕ × C → Bool
-  is_first cs p = option_eq eqb (place_of equal cs (Some p.1)) (Some p.0)
+  -- no candidate before a place is equal to that at it
+  pub new_before : (cs : List C) (j : ℕ) (x : C) → slice_get cs j ≡ Some x → j ≤ length cs → list_all (λ k. not (equal k x)) (take j cs) ≡ new_at equal cs j
+  new_before cs j x at l =
+      let long : length (take j cs) ≡ j = length-take-le j cs l in
+      let each : (i : ℕ) (d : C) → i < length (take j cs) → not (equal (get_or (take j cs) i d) x) ≡ not (both_equal equal (slice_get cs i) (slice_get cs j)) =
+      λ i d m. rw (at, slice_get-get_or cs i d (omega arith), get_or-take j cs i d (omega arith)) refl in
+      rw long at (all_list (λ k. not (equal k x)) (λ i. not (both_equal equal (slice_get cs i) (slice_get cs j))) (take j cs) each)
 
-  module _ (reflexive : (x : C) → equal x x ≡ true) where
-    -- it is where no earlier one is equal to it
-    first_new : (cs : List C) (i : ℕ) (x : C) → i < length cs → slice_get cs i ≡ Some x → is_first cs (i, x) ≡ new_at equal cs i
-    first_new cs i x l at =
-        let here = ap (λ (o : Option C). both_equal equal o (Some x)) at ∙ reflexive x in
-        lowest_new (length cs) (λ k. both_equal equal (slice_get cs k) (Some x)) i l here ∙ ap (λ (o : Option C). all_below i (λ k. not (both_equal equal (slice_get cs k) o))) (sym at)
-
-    -- the same of the candidates with their places
-    each_new : (cs : List C) (i : ℕ) (d : ℕ × C) → i < length cs → is_first cs (get_or (enumerate_from 0 cs) i d) ≡ new_at equal cs i
-    each_new cs i d l =
-        let at = get_or-enumerate_from 0 cs i d l ∙ ap (λ (k : ℕ). (k, get_or cs i d.1)) (zero-add i) in
-        ap (is_first cs) at ∙ first_new cs i (get_or cs i d.1) l (slice_get-get_or cs i d.1 l)
-
-    -- so no two are equal where each is the first
-    pub first-distinct : (cs : List C) → list_all (is_first cs) (enumerate_from 0 cs) ≡ distinct equal cs
-    first-distinct cs =
-        let long = length-enumerate_from 0 cs in
-        simp long at (all_list (is_first cs) (new_at equal cs) (enumerate_from 0 cs) (λ i d l. each_new cs i d (omega arith)))
+  -- nor one before a place at which there is none
+  pub new_past : (cs : List C) (j : ℕ) → length cs ≤ j → new_at equal cs j ≡ true
+  new_past cs j l = all_true j (λ i. not (both_equal equal (slice_get cs i) (slice_get cs j))) (λ i m. rw (slice_get_past cs j l) (ap not (none_equal (slice_get cs i))))
 
   -- a candidate that is equal to something stands somewhere
   stands : (cs : List C) (k : ℕ) (o : Option C) → both_equal equal (slice_get cs k) o ≡ true → k < length cs

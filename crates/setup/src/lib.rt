@@ -4,7 +4,7 @@
 ghost use Rattle.std.specs.Prelude.{◌≡◌, ◌≤◌, length, IfOk, IfSome, Some, is_some};
 ghost use Rattle.fault.specs.Refusals.{number_in};
 ghost use Rattle.setup.specs.Placed.{Placed, Unseen};
-ghost use Rattle.setup.specs.Setup.{all_placed, distinct, is_candidate_count, is_fault_set, judged, place_at, place_of, places_of, setup_number};
+ghost use Rattle.setup.specs.Setup.{all_placed, distinct, is_candidate_count, is_fault_set, judged, new_at, place_at, place_of, places_of, setup_number};
 
 use candidate::Candidate;
 use fault::Refusal;
@@ -46,13 +46,23 @@ impl<'a, C: Candidate> Candidates<'a, C> {
             .map(|place| place as u8)
     }
 
-    // Whether no two candidates are equal: each is the first that is equal to it.
+    // Whether no candidate before the place is equal to that at it. (None is compared with itself, as `place_of` would: its equality may take long.)
+    fn is_new_at(&self, place: usize) -> bool
+        ensures { result ≡ new_at C.Candidate.equal self.now.list.now place }
+    {
+        match self.list.get(place) {
+            Some(candidate) => self.list[..place]
+                .iter()
+                .all(|earlier| !earlier.equals(candidate)),
+            None => true,
+        }
+    }
+
+    // Whether no two candidates are equal.
     fn are_distinct(&self) -> bool
         ensures { result ≡ distinct C.Candidate.equal self.now.list.now }
     {
-        self.list.iter().enumerate().all(|(place, candidate)| {
-            self.place_of(candidate) == Some(place as u8)
-        })
+        (0..self.list.len()).all(|place| self.is_new_at(place))
     }
 }
 

@@ -1,9 +1,12 @@
 // Kinds of candidate, and verdicts.
+ghost use Rattle.std.specs.Prelude.{Some, codes, refl, true};
+
 use candidate::snapshot::Snapshot;
 use candidate::term::{Term, TimeUnit, UnknownUnit};
 use candidate::verdict::Verdict;
 use candidate::{Candidate, Printable};
 use std::alloc::Global;
+use std::fmt;
 use std::process::Abort;
 use std::test::Fail;
 
@@ -81,4 +84,47 @@ fn verdicts_are_printed(rt: HostRuntime) -> Result<(), Fail> {
     prints(&rt, heap, term(TimeUnit::Months, 24), "24m at 2047")?;
     prints(&rt, heap, term(TimeUnit::Years, 16383), "16383y at 2047")?;
     prints(&rt, heap, term(TimeUnit::UntilClose, 9), "close at 2047")
+}
+
+// A kind of its own, whose one value is printed as wide as it is asked to be.
+#[derive(Clone, Copy)]
+struct Word;
+
+impl Candidate for Word {
+    ghost equal = { λ a b. true };
+
+    ghost reflexive = { λ x. refl };
+
+    ghost symmetric = { λ x y h. refl };
+
+    ghost transitive = { λ x y z h g. refl };
+
+    fn equals(&self, _other: &Self) -> bool {
+        true
+    }
+}
+
+impl fmt::Display for Word {
+    ghost output = { λ w. Some (codes "ab") };
+
+    fn fmt<W: fmt::Write>(&self, f: &mut fmt::Formatter<W>) -> fmt::Result {
+        f.pad("ab")
+    }
+}
+
+impl Printable for Word {
+    ghost text = { λ w. codes "ab" };
+
+    ghost shown = { λ w. refl };
+}
+
+#[test]
+fn a_kind_sees_how_a_verdict_is_to_be_printed(rt: HostRuntime) -> Result<(), Fail> {
+    let verdict = Verdict {
+        candidate: Word,
+        phase: 1,
+    };
+    let text = format!(in rt.alloc(); "[{verdict}] [{verdict:>6}]")?;
+    assert_eq!(rt; text.as_str(), "[ab at 1] [    ab at 1]");
+    Ok(())
 }

@@ -46,17 +46,31 @@ fn state_of<K: Keeper>(keeper: &K) -> State {
     }
 }
 
-// Two keepers hold and admit the same at a position, and call the same numbers genuine.
-fn agree_at<A: Keeper, B: Keeper>(rt: &impl Abort, a: &A, b: &B, at: Position, numbers: &[u32]) {
+// Two keepers hold and admit the same at a position, and call the same numbers genuine. (`MapKeeper` is named by its path here and below: with both traits imported, `book.seal` would be either's.)
+fn agree_at<A: keeper::MapKeeper, B: keeper::MapKeeper>(
+    rt: &impl Abort,
+    a: &A,
+    b: &B,
+    at: Position,
+    numbers: &[u32],
+) {
     assert_eq!(rt; a.number_at(at), b.number_at(at));
     assert_eq!(rt; number(a.judge(at)), number(b.judge(at)));
     for x in numbers {
-        assert_eq!(rt; a.is_genuine(at, *x), b.is_genuine(at, *x));
+        assert_eq!(rt;
+            Keeper::is_genuine(a, at, *x),
+            Keeper::is_genuine(b, at, *x)
+        );
     }
 }
 
 // Two keepers have the same hosts, open hosts and phases, hold as many numbers, and agree at every position of the hosts 0 to 5 and the phases 0 to 9.
-fn agree<A: Keeper, B: Keeper>(rt: &impl Abort, a: &A, b: &B, numbers: &[u32]) {
+fn agree<A: keeper::MapKeeper, B: keeper::MapKeeper>(
+    rt: &impl Abort,
+    a: &A,
+    b: &B,
+    numbers: &[u32],
+) {
     assert_eq!(rt; state_of(a), state_of(b));
     for at in (0..120).map(|i| nth_position(i, 10)) {
         agree_at(rt, a, b, at, numbers);
@@ -198,21 +212,21 @@ const ASKED: [(u8, Sort, u16, u32, bool); 15] = [
 ];
 
 // Plays the sealings. A position admits what is sealed there, and then holds it.
-fn plays<K: Keeper>(rt: &impl Abort, keeper: &mut K) {
+fn plays<K: keeper::MapKeeper>(rt: &impl Abort, keeper: &mut K) {
     for (host, sort, phase, x, answer) in SEALINGS {
         let at = Position { host, sort, phase };
         assert_eq!(rt; number(keeper.judge(at)), answer);
-        assert_eq!(rt; number(keeper.seal(at, x)), answer);
+        assert_eq!(rt; number(Keeper::seal(keeper, at, x)), answer);
         assert!(rt; answer != 0 || keeper.number_at(at) == Some(x));
     }
 }
 
 // Plays the sealings, and asks.
-fn asks<K: Keeper>(rt: &impl Abort, keeper: &mut K) {
+fn asks<K: keeper::MapKeeper>(rt: &impl Abort, keeper: &mut K) {
     plays(rt, keeper);
     for (host, sort, phase, x, genuine) in ASKED {
         let at = Position { host, sort, phase };
-        assert_eq!(rt; keeper.is_genuine(at, x), genuine);
+        assert_eq!(rt; Keeper::is_genuine(keeper, at, x), genuine);
     }
 }
 

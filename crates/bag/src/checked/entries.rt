@@ -42,14 +42,9 @@ fn read_entry<'a, B: BodySort>(
     ensures within { Within span.entry.bytes.now result }
 {
     let front = read_head(span, limits, most, offsets)?;
-    let head = front.value;
-    let content = read_content::<B>(span.behind(front.size), head, limits)?;
+    let content = read_content::<B>(span.behind(front.size), front.value, limits)?;
     Ok(Part {
-        value: MetEntry {
-            recipient: head.recipient,
-            sender: head.sender,
-            entry: content.value,
-        },
+        value: content.value,
         size: front.size + content.size,
     })
 }
@@ -61,7 +56,7 @@ pub(crate) fn read_again<B: BodySort>(span: Span, limits: Limits) -> Result<Entr
 {
     let head = Head::read(span)?;
     let content = read_content::<B>(span.behind(head.size), head.value, limits)?;
-    decode::<B>(&content.value, limits)
+    decode::<B>(&content.value.entry, limits)
 }
 
 // Where the entries begin that stand one behind the other, each where the one before it ends: a chain would have to carry the place and the table along. The limits are the council's, and the most bodies the round's, so they are passed apart.

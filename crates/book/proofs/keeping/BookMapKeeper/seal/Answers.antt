@@ -6,8 +6,8 @@ use Rattle.keeper.proofs.Sealings.{sealed_refused}
 use Rattle.book.specs.Books.{keeping_of}
 use Rattle.book.specs.Rows.{found}
 use Rattle.book.proofs.Rows.{sealed_rows}
-use Rattle.book.proofs.keeping.BookKeeper.seal.Goals as goal
-use Rattle.book.proofs.keeping.BookKeeper.seal.Goals.{After-push_reserved}
+use Rattle.book.proofs.keeping.BookMapKeeper.seal.Goals as goal
+use Rattle.book.proofs.keeping.BookMapKeeper.seal.Goals.{After-push_reserved}
 
 -- the book with one more row
 after : (c : goal.After-push_reserved) → kept c.args.self.now.bounds (found (vec_items c.push_reserved.new.self)) ≡ sealed (keeping_of c.args.self.now) c.args.at c.args.number

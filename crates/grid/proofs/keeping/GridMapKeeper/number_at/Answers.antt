@@ -1,7 +1,7 @@
 use Rattle.std.proofs.Common.{◌<◌, length, None, vec_items, sym, arith}
 use Rattle.std.proofs.lemmas.List.{get_or_read}
 use Rattle.grid.proofs.Cells.{cell_below}
-use Rattle.grid.proofs.keeping.GridKeeper.number_at.Goals as goal
+use Rattle.grid.proofs.keeping.GridMapKeeper.number_at.Goals as goal
 
 pub index-requires : goal.index-requires
 index-requires c =

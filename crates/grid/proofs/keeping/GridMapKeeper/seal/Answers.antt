@@ -3,12 +3,12 @@ use Rattle.std.proofs.lemmas.Nat.{mul-le}
 use Rattle.keeper.specs.Bounding.{kept}
 use Rattle.keeper.specs.Keeping.{sealed}
 use Rattle.keeper.proofs.Counts.{one_more, count_below}
-use Rattle.keeper.proofs.Sealings.{free_inside, sealed_refused}
+use Rattle.keeper.proofs.Sealings.{accepted_inside, sealed_refused}
 use Rattle.grid.specs.Cells.{in_cells}
 use Rattle.grid.specs.Grids.{keeping_of}
 use Rattle.grid.proofs.Cells.{cell_below, sealed_cells}
-use Rattle.grid.proofs.keeping.GridKeeper.seal.Goals as goal
-use Rattle.grid.proofs.keeping.GridKeeper.seal.Goals.{After-cell_of-cell}
+use Rattle.grid.proofs.keeping.GridMapKeeper.seal.Goals as goal
+use Rattle.grid.proofs.keeping.GridMapKeeper.seal.Goals.{After-cell_of-cell}
 
 -- the grid with one more cell filled
 after : (c : goal.After-cell_of-cell) → kept c.args.self.now.bounds (in_cells c.args.self.now.bounds (set (vec_items c.args.self.now.cells) c.cell_of-cell.result (Some c.args.number))) ≡ sealed (keeping_of c.args.self.now) c.args.at c.args.number
@@ -23,7 +23,7 @@ returns-in_err-judge-clause-after c = sealed_refused (keeping_of c.args.self.now
 pub index_mut-requires : goal.index_mut-requires
 index_mut-requires c =
     let s = c.args.self.now in
-    omega (arith, c.cell_of-cell.ensures, s.sized, cell_below s.bounds c.args.at (free_inside (keeping_of s) c.args.at c.in_ok-judge.ensures))
+    omega (arith, c.cell_of-cell.ensures, s.sized, cell_below s.bounds c.args.at (accepted_inside (keeping_of s) c.args.at c.in_ok-judge.ensures))
 
 pub overflow_add-self : goal.overflow_add-self
 overflow_add-self c =
