@@ -1,6 +1,7 @@
 // Candidates (the values that can be agreed on). A kind of candidate brings an equality that keeps three laws.
 #![tactic(auto)]
 
+ghost use Rattle.std.specs.Fmt.{WritesOnOk};
 ghost use Rattle.std.specs.Prelude.{◌≡◌, ℕ, Bool, true, List, Some};
 
 use std::fmt;
@@ -24,9 +25,26 @@ pub trait Candidate {
     ghost transitive: { (x y z : Self) → equal x y ≡ true → equal y z ≡ true → equal x z ≡ true };
 }
 
-// A kind of candidate that can be printed: its printed form, byte for byte.
-pub trait Printable: Candidate + fmt::Display {
+// A kind of candidate that can be printed.
+pub trait Printable: Candidate {
+    ghost text: { Self → List ℕ };
+
+    // Writes the printed form, byte for byte.
+    fn print<W: fmt::Write>(&self, f: &mut fmt::Formatter<W>) -> fmt::Result
+        ensures { WritesOnOk W.write_str_gives f.old result (text self.now) f.new };
+}
+
+// A kind of candidate whose printed form is what is displayed of it. It is `Printable` by the impl below; a kind may also be displayed otherwise, and bring its own `print`.
+pub trait Displayed: Candidate + fmt::Display {
     ghost text: { Self → List ℕ };
 
     ghost shown: { (x : Self) → Self.output x ≡ Some (text x) };
+}
+
+impl<C: Displayed> Printable for C {
+    ghost text = { C.Displayed.text };
+
+    fn print<W: fmt::Write>(&self, f: &mut fmt::Formatter<W>) -> fmt::Result {
+        self.fmt(f)
+    }
 }

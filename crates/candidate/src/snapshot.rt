@@ -4,7 +4,7 @@ ghost use Rattle.candidate.specs.Equality.{equal_snapshots};
 ghost use Rattle.candidate.specs.Texts.{snapshot_text};
 ghost use Rattle.std.proofs.Common.{rules};
 
-use crate::{Candidate, Printable};
+use crate::{Candidate, Displayed};
 use std::fmt;
 
 // A numbered snapshot of a numbered manual.
@@ -36,7 +36,7 @@ impl fmt::Display for Snapshot {
     }
 }
 
-impl Printable for Snapshot {
+impl Displayed for Snapshot {
     ghost text = { snapshot_text };
 
     ghost shown = { λ s. refl };

@@ -5,7 +5,7 @@ ghost use Rattle.candidate.specs.Texts.{term_text};
 ghost use Rattle.candidate.specs.Units.{unit_in};
 ghost use Rattle.std.proofs.Common.{rules};
 
-use crate::{Candidate, Printable};
+use crate::{Candidate, Displayed};
 use std::fmt;
 
 // What a term counts; until the project closes, nothing is counted.
@@ -94,7 +94,7 @@ impl fmt::Display for Term {
     }
 }
 
-impl Printable for Term {
+impl Displayed for Term {
     ghost text = { term_text };
 
     ghost shown = { λ t. refl };

@@ -16,8 +16,7 @@ impl<C: Printable> fmt::Display for Verdict<C> {
     ghost output = { λ v. Some (verdict_text C.Printable.text v) };
 
     fn fmt<W: fmt::Write>(&self, f: &mut fmt::Formatter<W>) -> fmt::Result {
-        // the formatter goes on to the candidate, which may look at its options
-        self.candidate.fmt(f)?;
+        self.candidate.print(f)?;
         write!(f, " at {}", self.phase)
     }
 }

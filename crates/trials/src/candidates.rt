@@ -1,5 +1,5 @@
 // Kinds of candidate, and verdicts.
-ghost use Rattle.std.specs.Prelude.{Some, codes, refl, true};
+ghost use Rattle.std.specs.Prelude.{codes, refl, true};
 
 use candidate::snapshot::Snapshot;
 use candidate::term::{Term, TimeUnit, UnknownUnit};
@@ -86,7 +86,7 @@ fn verdicts_are_printed(rt: HostRuntime) -> Result<(), Fail> {
     prints(&rt, heap, term(TimeUnit::UntilClose, 9), "close at 2047")
 }
 
-// A kind of its own, whose one value is printed as wide as it is asked to be.
+// A kind of its own, not displayed by itself, whose one value is printed as wide as it is asked to be.
 #[derive(Clone, Copy)]
 struct Word;
 
@@ -104,18 +104,12 @@ impl Candidate for Word {
     }
 }
 
-impl fmt::Display for Word {
-    ghost output = { λ w. Some (codes "ab") };
-
-    fn fmt<W: fmt::Write>(&self, f: &mut fmt::Formatter<W>) -> fmt::Result {
-        f.pad("ab")
-    }
-}
-
 impl Printable for Word {
     ghost text = { λ w. codes "ab" };
 
-    ghost shown = { λ w. refl };
+    fn print<W: fmt::Write>(&self, f: &mut fmt::Formatter<W>) -> fmt::Result {
+        f.pad("ab")
+    }
 }
 
 #[test]
