@@ -16,6 +16,7 @@ impl<C: Printable> fmt::Display for Verdict<C> {
     ghost output = { λ v. Some (verdict_text C.Printable.text v) };
 
     fn fmt<W: fmt::Write>(&self, f: &mut fmt::Formatter<W>) -> fmt::Result {
+        // no placeholder: the candidate may look at this formatter's options
         self.candidate.print(f)?;
         write!(f, " at {}", self.phase)
     }

@@ -1,5 +1,5 @@
 -- Laws of masks and of lists with an item for each host.
-use Rattle.std.proofs.Common.{◌≡◌, ℕ, zero, suc, ◌+◌, ◌*◌, ◌/◌, ◌%◌, ◌^◌, ◌<◌, ◌≤◌, false, cond, not, ◌&&◌, ◌||◌, eqb, ltb, List, length, get_or, sym, refl, ap, ◌∙◌, one-add, arith, pow_mono}
+use Rattle.std.proofs.Common.{◌≡◌, ℕ, zero, suc, ◌+◌, ◌*◌, ◌/◌, ◌%◌, ◌^◌, ◌<◌, ◌≤◌, false, cond, not, ◌&&◌, ◌||◌, eqb, ltb, List, length, get_or, sym, refl, ap, ◌∙◌, one-add, mod-eq_of_lt, arith, pow_mono}
 use native.Mathlib.Nat.{mod-one}
 use lib.Bits.{bit_and}
 use lib.Count.{ones, ones_cat}
@@ -9,7 +9,7 @@ use Rattle.std.proofs.lemmas.Bool.Decides.{nat_tests}
 use Rattle.std.proofs.lemmas.Nat.{pow_pos, mod-pow-add, mod_below}
 use Rattle.std.proofs.lemmas.Nat.Bits.{shr_and_one, bit_at-lt, bit_at_above}
 use Rattle.std.proofs.lemmas.List.FromFn.{fill_by_all, get_or-map-range_with_len}
-use Rattle.sets.specs.Sets.{has, sum_below, all_below, count, per_host}
+use Rattle.sets.specs.Sets.{has, sum_below, all_below, count, only_below, is_mask_of, per_host}
 
 -- what a shift and a mask of one bit read
 pub has-shr : (m i : ℕ) → eqb (bit_and (m / 2 ^ i) 1) 1 ≡ has m i
@@ -58,6 +58,10 @@ only_below_is_mask (suc k) n m =
     let h = only_below_is_mask k n m in
     let s = split_mask k m in
     cc
+
+-- a set of hosts names only such below n where its mask is one of n
+pub below_is_mask : (n hosts : ℕ) → hosts < 2 ^ 16 → only_below n hosts ≡ is_mask_of n hosts
+below_is_mask n hosts l = only_below_is_mask 16 n hosts ∙ ap (λ (m : ℕ). ltb m (2 ^ n)) (mod-eq_of_lt l)
 
 -- a list that was filled host by host
 pub per_host_all : {X : Type 0} (f : ℕ → X) (d : X) (xs : List X) → length xs ≡ 16 → ((k : ℕ) → k < 16 → get_or xs k d ≡ f k) → xs ≡ per_host f

@@ -25,6 +25,7 @@ pub fn has_host(hosts: u16, host: u8) -> bool
 }
 
 // Whether the set names only hosts below n.
+#[tactic(auto, using(crate::proofs::Masks::below_is_mask))]
 pub fn has_only_below(hosts: u16, n: u8) -> bool
     ensures { result ≡ only_below n hosts }
 {
